@@ -1,3 +1,6 @@
+ghost use Rattle.std.specs.Prelude.{◌≡◌};
+ghost use Rattle.pl_base.specs.Widths.{load_bytes, store_bytes};
+
 /// How many bytes a load takes, and whether its top bit is spread: `B` and `H` are signed, `Bu` and `Hu` unsigned.
 #[derive(Clone, Copy, Debug, PartialEq, Eq)]
 pub enum LoadWidth {
@@ -8,12 +11,38 @@ pub enum LoadWidth {
     Hu,
 }
 
+impl LoadWidth {
+    /// How many bytes it takes: 1, 2 or 4.
+    pub fn bytes(self) -> u8
+        ensures { result ≡ load_bytes self }
+    {
+        match self {
+            LoadWidth::B | LoadWidth::Bu => 1,
+            LoadWidth::H | LoadWidth::Hu => 2,
+            LoadWidth::W => 4,
+        }
+    }
+}
+
 /// How many bytes a store writes: 1, 2 or 4.
 #[derive(Clone, Copy, Debug, PartialEq, Eq)]
 pub enum StoreWidth {
     B,
     H,
     W,
+}
+
+impl StoreWidth {
+    /// How many bytes it writes: 1, 2 or 4.
+    pub fn bytes(self) -> u8
+        ensures { result ≡ store_bytes self }
+    {
+        match self {
+            StoreWidth::B => 1,
+            StoreWidth::H => 2,
+            StoreWidth::W => 4,
+        }
+    }
 }
 
 /// Why a hart faulted.

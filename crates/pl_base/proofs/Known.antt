@@ -1,21 +1,19 @@
 -- Known bytes through one call after another.
-use Rattle.std.proofs.Common.{◌≡◌, ℕ, ◌+◌, ◌-◌, ◌≤◌, List, [], ◌++◌, length, take, drop, Some, None, Option, refl, sym, ap, subst, ◌∙◌, append_assoc, arith}
+use Rattle.std.proofs.Common.{◌≡◌, ℕ, ◌+◌, ◌-◌, ◌≤◌, List, ◌++◌, length, take, drop, Some, None, Option, sym, ap, subst, ◌∙◌, append_assoc, arith}
 use Rattle.std.specs.Prelude.{IfSome, ◌<◌}
 use Rattle.std.proofs.Math.Seq.{take-length}
-use Rattle.std.specs.Io.KnownBytes.{Consumes, Appends, Keeps, IsAtEnd}
+use Rattle.std.specs.Io.KnownBytes.{Consumes, Appends, IsAtEnd}
 use Rattle.pl_base.specs.Fronts.{TakesBetween}
 use Rattle.std.proofs.lemmas.List.{take_at, append-nil, take-append-drop, length-append, length-take, length-drop, drop-drop}
 
-pub Consumes-none : (a : Option (List ℕ)) → Consumes a a []
-Consumes-none None = tt
-Consumes-none (Some xs) = refl
-
+-- two pieces that were taken in turn are one
 pub Consumes-then : (a b c : Option (List ℕ)) (xs ys : List ℕ) → Consumes a b xs → Consumes b c ys → Consumes a c (xs ++ ys)
 Consumes-then None b c xs ys p q = tt
 Consumes-then (Some u) None c xs ys p q = absurd p
 Consumes-then (Some u) (Some v) None xs ys p q = absurd q
 Consumes-then (Some u) (Some v) (Some w) xs ys p q = p ∙ ap (λ (t : List ℕ). xs ++ t) q ∙ sym (append_assoc xs ys w)
 
+-- two pieces that were appended in turn are one
 pub Appends-then : (a b c : Option (List ℕ)) (xs ys : List ℕ) → Appends a b xs → Appends b c ys → Appends a c (xs ++ ys)
 Appends-then None b c xs ys p q = tt
 Appends-then (Some u) None c xs ys p q = absurd p
@@ -34,6 +32,7 @@ Consumes-longer None b xs n lt p = tt
 Consumes-longer (Some u) None xs n lt p = absurd p
 Consumes-longer (Some u) (Some v) xs n lt p = omega (arith, ap length p, length-append xs v)
 
+-- a read of no bytes at the end took nothing more
 pub Consumes-nothing : (a b c : Option (List ℕ)) (xs ys : List ℕ) {n : ℕ} → n ≡ 0 → Consumes a b xs → Consumes b c (take n ys) → Consumes a c xs
 Consumes-nothing a b c xs ys e p q =
     let both = Consumes-then a b c xs (take 0 ys) p (subst (λ (k : ℕ). Consumes b c (take k ys)) e q) in
@@ -49,19 +48,6 @@ Consumes-whole None b xs end p = tt
 Consumes-whole (Some u) None xs end p = absurd p
 Consumes-whole (Some u) (Some v) xs end p = p ∙ ap (λ (t : List ℕ). xs ++ t) end ∙ append-nil xs
 
--- what was taken of known bytes, as a front of them
-pub TakesBetween-of : (a b : Option (List ℕ)) (xs : List ℕ) (least most : ℕ) → Consumes a b xs → least ≤ length xs → length xs ≤ most → TakesBetween a b least most
-TakesBetween-of a b xs least most taken long short = record { front = xs; long = long; short = short; taken = taken }
-
--- known bytes that stayed after the front was taken
-pub Consumes-keeps : (a b c : Option (List ℕ)) (xs : List ℕ) → Consumes a b xs → Keeps b c → Consumes a c xs
-Consumes-keeps None b c xs p k = tt
-Consumes-keeps (Some u) None c xs p k = absurd p
-Consumes-keeps (Some u) (Some v) None xs p k = absurd k
-Consumes-keeps (Some u) (Some v) (Some w) xs p k = p ∙ ap (λ (t : List ℕ). xs ++ t) (sym k)
-
-pub Appends-keeps : (a b c : Option (List ℕ)) (xs : List ℕ) → Appends a b xs → Keeps b c → Appends a c xs
-Appends-keeps None b c xs p k = tt
-Appends-keeps (Some u) None c xs p k = absurd p
-Appends-keeps (Some u) (Some v) None xs p k = absurd k
-Appends-keeps (Some u) (Some v) (Some w) xs p k = k ∙ p
+-- two fronts in turn are one
+pub TakesBetween-then : (a b c : Option (List ℕ)) (xs ys : List ℕ) (least most : ℕ) → Consumes a b xs → Consumes b c ys → least ≤ length (xs ++ ys) → length (xs ++ ys) ≤ most → TakesBetween a c least most
+TakesBetween-then a b c xs ys least most p q long short = record { front = xs ++ ys; long = long; short = short; taken = Consumes-then a b c xs ys p q }

@@ -1,7 +1,7 @@
-use Rattle.std.proofs.Common.{arith, take, ◌++◌}
+use Rattle.std.proofs.Common.{arith}
 use Rattle.std.proofs.lemmas.List.{length-append, length-take}
 use Rattle.std.proofs.lemmas.Result.{err_from_is_err_and}
-use Rattle.pl_base.proofs.Known.{TakesBetween-of, Consumes-then, Consumes-longer, Consumes-nothing, Consumes-whole}
+use Rattle.pl_base.proofs.Known.{TakesBetween-then, Consumes-then, Consumes-longer, Consumes-nothing, Consumes-whole}
 use Rattle.pl_base.proofs.loops.fill.Goals as goal
 
 pub returns-then-count-eq0-clause-whole : goal.returns-then-count-eq0-clause-whole
@@ -22,13 +22,13 @@ loop-count-preserved g c = record {
 
 pub returns-then-count-limit-clause-taken : goal.returns-then-count-limit-clause-taken
 returns-then-count-limit-clause-taken g c =
-    TakesBetween-of _ _ (c.loop-count.all.items ++ take c.in-Ok.count c.read.new.into) _ _ (Consumes-then _ _ _ _ _ c.loop-count.invariant.bytes c.in-Ok.ensures.bytes.0)
+    TakesBetween-then _ _ _ _ _ _ _ c.loop-count.invariant.bytes c.in-Ok.ensures.bytes.0
     (simp (length-append, length-take) (omega (arith, c.in-Ok.ensures.bound.0)))
     (simp (length-append, length-take) (omega (arith, c.in-Ok.ensures.bound.0)))
 
 pub returns-in_err-extend_from_slice-clause-taken : goal.returns-in_err-extend_from_slice-clause-taken
 returns-in_err-extend_from_slice-clause-taken g c =
     let p = err_from_is_err_and c.from_residual.result c.from_residual.ensures.1 in
-    rw (p.1, p.2) (TakesBetween-of _ _ (c.loop-count.all.items ++ take c.in-Ok.count c.read.new.into) _ _ (Consumes-then _ _ _ _ _ c.loop-count.invariant.bytes c.in-Ok.ensures.bytes.0)
+    rw (p.1, p.2) (TakesBetween-then _ _ _ _ _ _ _ c.loop-count.invariant.bytes c.in-Ok.ensures.bytes.0
     (omega arith)
     (simp (length-append, length-take) (omega (arith, c.in-Ok.ensures.bound.0))))

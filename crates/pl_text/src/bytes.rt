@@ -1,4 +1,4 @@
-ghost use Rattle.std.specs.Prelude.{◌≡◌, ◌∷◌, [], ℕ, List, IfSome, IfNone, IsSomeAnd};
+ghost use Rattle.std.specs.Prelude.{◌≡◌, ◌∷◌, ◌++◌, [], ℕ, List, IfSome, IfNone, IsSomeAnd};
 
 /// The first byte and what stands behind it.
 #[inline(always)]
@@ -20,4 +20,20 @@ pub fn after_byte(text: &[u8], byte: u8) -> Option<&[u8]>
 {
     let (first, rest) = first_byte(text)?;
     if first == byte { Some(rest) } else { None }
+}
+
+/// What stands behind a word, where the text begins with it.
+#[inline(always)]
+pub fn after_word<'a>(text: &'a [u8], word: &[u8]) -> Option<&'a [u8]>
+    ensures found { IfSome result (λ rest. text.now ≡ word.now ++ rest.now) }
+    ensures every { (rest : List ℕ) → text.now ≡ word.now ++ rest → IsSomeAnd result (λ r. r.now ≡ rest) }
+{
+    let mut rest = text;
+    for byte in word {
+        let Some(behind) = after_byte(rest, *byte) else {
+            return None;
+        };
+        rest = behind;
+    }
+    Some(rest)
 }

@@ -10,5 +10,5 @@ mod number;
 #[cfg(test)]
 mod tests;
 
-pub use bytes::{after_byte, first_byte};
+pub use bytes::{after_byte, after_word, first_byte};
 pub use number::{decimal_at, hex_at, number_at, one_number, parse_number};

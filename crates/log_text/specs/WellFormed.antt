@@ -14,6 +14,8 @@ use Rattle.log_text.specs.declared.cause.LogFault.{LogFault}
 use Rattle.log_text.specs.declared.cause.LogRefused.{LogRefused}
 use Rattle.log_text.specs.declared.cause.LogRefused.TheVariants as refused
 use Rattle.log_text.specs.declared.cause.LogCause.TheVariants as cause
+use Rattle.log_text.specs.declared.rule.Rule.{Rule}
+use Rattle.log_text.specs.declared.rule.Rule.TheVariants.{Page, Records, Hart, Access, Range}
 use Rattle.log_text.specs.Spelling.{Entry, page, row, header_text, line_text, entry_text, entries_text, entries_of, log_spelling}
 use Rattle.log_text.specs.Form.{IsInForm}
 
@@ -50,14 +52,6 @@ passes_end _ = false
 abbrev pub on_event : (Kind → Bool) → Record → Bool
 on_event test (entry.Event event) = test event.kind
 on_event test (entry.Notice hart point) = false
-
--- what a line in form can still break
-pub data Rule : Type 0 where
-  Page : Rule
-  Records : Rule
-  Hart : Rule
-  Access : Rule
-  Range : Rule
 
 -- a page line follows a record, starts below the end of the run before it, passes the last page, or maps more than 512
 abbrev pub breaks_page : List Entry → PageRun → Bool

@@ -5,6 +5,8 @@ mod cause;
 mod grammar;
 mod item;
 mod read;
+mod reader;
+mod rule;
 
 pub use cause::{LogCause, LogFault, LogRefused};
 pub use read::read_log;

@@ -1,6 +1,6 @@
 ghost use Rattle.std.specs.Prelude.{◌≡◌, ◌≤◌, ◌<◌, ◌+◌, ◌%◌, ◌^◌, ◌==◌, false, None, OnOk, OnErr, nat_le, nat_lt, sum_by, count_by};
 ghost use Rattle.std.specs.List.{list_any};
-ghost use Rattle.pl_event.specs.Numbers.{hart_of as the_hart_of};
+ghost use Rattle.pl_event.specs.Numbers.{hart_of};
 ghost use Rattle.log_text.specs.Begins.{entry_from};
 ghost use Rattle.log_text.specs.Spelling.{entries_of};
 ghost use Rattle.log_text.specs.Made.{empty_log, with_item};
@@ -11,12 +11,16 @@ use crate::rule::Rule;
 use pl_event::{Arcs, Kind, Line, Lines, Log, PageRun, PageRuns, Record};
 use std::alloc::{AllocError, Global};
 
+/// How many records a log can have.
 const MAX_RECORDS: usize = 2_000_000;
 
-const MAX_PAGES: u32 = 512;
+/// How many pages the runs of a log can have.
+const MAX_MAPPED: u32 = 512;
 
+/// How many pages memory has.
 const PAGES: u32 = 4096;
 
+/// How many bytes memory has.
 const MEMORY: u64 = 0x0100_0000;
 
 /// The log so far, with what the rules look at.
@@ -34,6 +38,7 @@ pub struct Reader {
 }
 
 impl Reader {
+    /// No line yet.
     pub fn new(alloc: Global, harts: u8) -> Reader
         ensures { result.log ≡ empty_log harts }
     {
@@ -72,16 +77,16 @@ impl Reader {
     fn judge_record(&self, what: Record) -> Option<Rule>
         ensures { result ≡ broken self.now.log.harts (entries_of self.now.log) (entry_from (Item.Row what)) }
     {
-        if self.is_full() {
+        if self.breaks_records() {
             return Some(Rule::Records);
         }
-        if self.is_strange(what) {
+        if self.breaks_hart(what) {
             return Some(Rule::Hart);
         }
-        if misses_width(what) {
+        if breaks_access(what) {
             return Some(Rule::Access);
         }
-        if passes_memory(what) {
+        if breaks_range(what) {
             return Some(Rule::Range);
         }
         None
@@ -95,7 +100,7 @@ impl Reader {
         self.has_records()
             || first < self.next_page
             || first + count > PAGES
-            || self.mapped + count > MAX_PAGES
+            || self.mapped + count > MAX_MAPPED
     }
 
     fn has_records(&self) -> bool
@@ -104,14 +109,14 @@ impl Reader {
         !self.log.lines.as_slice().is_empty()
     }
 
-    fn is_full(&self) -> bool
+    fn breaks_records(&self) -> bool
         ensures { result ≡ nat_le 2000000 (count_by is_row (entries_of self.now.log)) }
     {
         self.log.lines.as_slice().len() >= MAX_RECORDS
     }
 
-    fn is_strange(&self, what: Record) -> bool
-        ensures { result ≡ nat_le self.now.log.harts (the_hart_of what) }
+    fn breaks_hart(&self, what: Record) -> bool
+        ensures { result ≡ nat_le self.now.log.harts (hart_of what) }
     {
         hart_of(what) >= self.log.harts
     }
@@ -150,6 +155,7 @@ impl Reader {
         Ok(())
     }
 
+    /// The log of the lines so far.
     pub fn into_log(self) -> Log
         ensures { result ≡ self.log }
     {
@@ -163,7 +169,7 @@ impl Reader {
 }
 
 fn hart_of(what: Record) -> u8
-    ensures { result ≡ the_hart_of what }
+    ensures { result ≡ hart_of what }
 {
     match what {
         Record::Event(event) => event.hart,
@@ -171,7 +177,7 @@ fn hart_of(what: Record) -> u8
     }
 }
 
-fn misses_width(what: Record) -> bool
+fn breaks_access(what: Record) -> bool
     ensures { result ≡ on_event is_misaligned what }
 {
     match what {
@@ -197,7 +203,7 @@ fn is_multiple(addr: u32, width: u8) -> bool
     addr % u32::from(width) == 0
 }
 
-fn passes_memory(what: Record) -> bool
+fn breaks_range(what: Record) -> bool
     ensures { result ≡ on_event passes_end what }
 {
     match what {

@@ -1,7 +1,7 @@
 use Rattle.std.proofs.Common.{leb, ap, sym, ◌∙◌, length, List, ℕ}
 use Rattle.pl_event.specs.declared.log.Line.{Line}
 use Rattle.log_text.proofs.Entries.{rows_in}
-use Rattle.log_text.proofs.reader.Reader.is_full.Goals as goal
+use Rattle.log_text.proofs.reader.Reader.breaks_records.Goals as goal
 
 pub returns : goal.returns
 returns c =

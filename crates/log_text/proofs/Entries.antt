@@ -1,5 +1,5 @@
 -- What the lines of a log come to, as the rules count them.
-use Rattle.std.proofs.Common.{◌≡◌, ℕ, suc, ◌+◌, ◌≤◌, Bool, true, false, not, ◌||◌, cond, eqb, ltb, List, [], ◌∷◌, ◌++◌, length, map, refl, sym, ap, ◌∙◌, arith}
+use Rattle.std.proofs.Common.{◌≡◌, suc, ◌+◌, ◌≤◌, false, not, cond, eqb, List, [], ◌∷◌, ◌++◌, length, map, refl, sym, ap, ◌∙◌, arith}
 use Rattle.std.specs.List.{count_by, sum_by, list_any}
 use Rattle.std.proofs.lemmas.Bool.{or_parts, ltb-false, not-false, eqb-true, ne_eqb}
 use Rattle.std.proofs.lemmas.List.{append-nil, map-append, append_assoc, nil_from_length}

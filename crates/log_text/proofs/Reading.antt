@@ -1,23 +1,21 @@
 -- How far the bytes of a log were read.
 use Rattle.std.proofs.Common.{◌≡◌, ℕ, ◌+◌, ◌<◌, ◌≤◌, ◌⊎◌, Bool, true, eqb, List, [], ◌∷◌, ◌++◌, length, refl, sym, ap, ◌∙◌, subst, arith, inl, inr, zero, suc, cond, false, replicate, Option, Some, None}
-use Rattle.std.specs.List.{All, flat_map}
+use Rattle.std.specs.List.{All}
 use Rattle.std.specs.Option.{is_some}
-use Rattle.std.proofs.lemmas.List.{append-nil, append_assoc, append_cancel_left, nil_from_length, length-append}
+use Rattle.std.proofs.lemmas.List.{append-nil, append_assoc, nil_from_length, length-append}
 use Rattle.std.proofs.lemmas.Bool.{eqb-false, false≢true}
 use Rattle.std.proofs.lemmas.List.Concat.{flat_map-append}
 use Rattle.std.proofs.lemmas.List.Elements.{All-append}
-use Rattle.pl_event.specs.declared.log.Line.{Line}
 use Rattle.pl_event.specs.declared.log.Log.{Log}
 use Rattle.log_text.specs.declared.cause.LogCause.TheVariants as cause
-use Rattle.log_text.specs.declared.cause.LogFault.{LogFault}
 use Rattle.pl_event.specs.declared.log.Record.{Record}
 use Rattle.log_text.specs.declared.item.Item.{Item}
 use Rattle.log_text.specs.declared.rule.Rule.TheVariants as rule
 use Rattle.log_text.specs.declared.item.Item.TheVariants as item
 use Rattle.log_text.specs.Begins.{Begins, BeginsWithNone, BeginsWithHeader, BeginsWithNoHeader, entry_from}
 use Rattle.log_text.specs.Made.{empty_log, with_item}
-use Rattle.log_text.specs.Spelling.{Entry, page, row, header_text, line_text, entry_text, entries_text, entries_of, log_spelling}
-use Rattle.log_text.specs.WellFormed.{broken, breaks_page, Continues, IsLawful, IsWellFormed, IsLogText, IsHeaderFault, IsLineFault}
+use Rattle.log_text.specs.Spelling.{Entry, header_text, line_text, entry_text, entries_text, entries_of, log_spelling}
+use Rattle.log_text.specs.WellFormed.{broken, breaks_page, Continues, IsLawful, IsWellFormed, IsLogText, IsLineFault}
 use Rattle.log_text.proofs.Entries.{entries-page, entries-row, placed}
 use Rattle.log_text.proofs.Same.{IsWhole, log-same}
 

@@ -1,13 +1,11 @@
-use Rattle.std.proofs.Common.{◌≡◌, ◌∙◌, ℕ, ◌+◌, ◌<◌, List, [], ◌∷◌, ◌++◌, length, sym, refl, ap, subst, inl, inr, arith, Option, None, not, is_some, eqb, false, Bool}
+use Rattle.std.proofs.Common.{◌≡◌, ◌∙◌, ◌+◌, [], ◌∷◌, length, sym, ap, subst, inr, arith, None, is_some}
 use Rattle.std.proofs.lemmas.Bool.{eqb-true}
 use Rattle.std.proofs.lemmas.List.{length-append}
-use Rattle.std.proofs.lemmas.Bool.{not-true, not-false}
 use Rattle.pl_event.specs.declared.log.Log.{Log}
 use Rattle.log_text.specs.Begins.{entry_from}
-use Rattle.log_text.specs.Made.{with_item}
-use Rattle.log_text.specs.Spelling.{Entry, entries_of}
-use Rattle.log_text.specs.WellFormed.{broken, IsLogText}
-use Rattle.log_text.proofs.Reading.{IsRead, IsStuck, read-none, read-push, read-ok, read-one, stuck-none, stuck-broken, stuck-fault, stuck-no_log, headless-no_log, item-entries, begins-longer, header-longer, not_some}
+use Rattle.log_text.specs.Spelling.{entries_of}
+use Rattle.log_text.specs.WellFormed.{broken}
+use Rattle.log_text.proofs.Reading.{IsRead, read-none, read-push, read-ok, read-one, stuck-none, stuck-broken, stuck-fault, stuck-no_log, item-entries, begins-longer, header-longer, not_some}
 use Rattle.log_text.proofs.read.read_log.Goals as goal
 
 pub lines-init : goal.lines-init

@@ -1,5 +1,4 @@
 ghost use Rattle.std.specs.Prelude.{◌≡◌};
-ghost use Rattle.pl_base.specs.Widths.{load_bytes, store_bytes};
 
 /// How many bytes a load takes, and whether its top bit is spread: `B` and `H` are signed, `Bu` and `Hu` unsigned.
 #[derive(Clone, Copy, Debug, PartialEq, Eq)]
@@ -12,7 +11,9 @@ pub enum LoadWidth {
 }
 
 impl LoadWidth {
-    /// How many bytes it takes: 1, 2 or 4.
+    ghost use Rattle.pl_base.specs.Widths.{load_bytes};
+
+    /// How many bytes are read: 1, 2 or 4.
     pub fn bytes(self) -> u8
         ensures { result ≡ load_bytes self }
     {
@@ -33,7 +34,9 @@ pub enum StoreWidth {
 }
 
 impl StoreWidth {
-    /// How many bytes it writes: 1, 2 or 4.
+    ghost use Rattle.pl_base.specs.Widths.{store_bytes};
+
+    /// How many bytes are written: 1, 2 or 4.
     pub fn bytes(self) -> u8
         ensures { result ≡ store_bytes self }
     {

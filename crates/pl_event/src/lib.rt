@@ -9,6 +9,8 @@
 mod event;
 mod log;
 mod streams;
+#[cfg(test)]
+mod tests;
 
 pub use event::{Event, Kind, is_alert, valid_event};
 pub use log::{Arcs, Line, Lines, Log, PageKind, PageRun, PageRuns, Point, Record};

@@ -12,7 +12,7 @@ use Rattle.pl_event.specs.declared.log.Record.{Record}
 use Rattle.log_text.specs.declared.item.Item.{Item}
 use Rattle.log_text.specs.declared.rule.Rule.TheVariants as rule
 use Rattle.log_text.specs.declared.item.Item.TheVariants as item
-use Rattle.log_text.specs.Begins.{Begins, BeginsWithNone, BeginsWithHeader, BeginsWithNoHeader, entry_from}
+use Rattle.log_text.specs.Begins.{Begins, BeginsWithNone, BeginsWithHeader, entry_from}
 use Rattle.log_text.specs.Made.{empty_log, with_item}
 use Rattle.log_text.specs.Spelling.{Entry, header_text, line_text, entry_text, entries_text, entries_of, log_spelling}
 use Rattle.log_text.specs.WellFormed.{broken, breaks_page, Continues, IsLawful, IsWellFormed, IsLogText, IsLineFault}
@@ -247,9 +247,3 @@ stuck-no_log harts bytes rest log read stuck other text = stuck_at alike.tail al
     stuck_at [] parted left = omega (arith, stuck.more, ap length left)
     stuck_at (t ∷ tail) parted left =
         stuck.breaks t (entries_text tail) left (subst (λ (h : ℕ). Continues h (entries_of log) t) alike.same (text.formed.lawful (entries_of log) tail t parted))
-
--- no header, no log
-pub headless-no_log : (bytes : List ℕ) → BeginsWithNoHeader bytes → (log : Log) → IsLogText bytes log → ⊥
-headless-no_log bytes none log text =
-    none log.harts (entries_text (entries_of log)) text.formed.some text.formed.few
-    (text.spelled ∙ ap (λ (b : ℕ). line_text (header_text log.harts b) ++ entries_text (entries_of log)) text.formed.block)

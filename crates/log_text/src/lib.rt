@@ -1,4 +1,8 @@
 //! The text of a log, read line by line.
+//!
+//! What is left of the bytes begins with a line in form, or with none; the rules then judge that line by the lines
+//! before it. The reader keeps the log so far and beside it the few numbers that the rules ask for, so a line is
+//! judged without a look back, and memory is taken only for the log itself.
 #![tactic(auto)]
 
 mod cause;

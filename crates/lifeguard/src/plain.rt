@@ -34,15 +34,17 @@ impl<L: Lifeguard> PlainMonitor<L> {
         ensures guard { IfOk result (λ monitor. monitor.guard ≡ l) }
         ensures harts { IfOk result (λ monitor. monitor.harts ≡ harts) }
     {
-        let _ = alloc;
-        let _ = l;
-        let _ = harts;
-        let _ = pages;
-        Err(NoMemory)
+        let shadow = Shadow::new(alloc, l, pages)?;
+        Ok(PlainMonitor {
+            guard: l,
+            harts,
+            shadow,
+        })
     }
 
     /// Applies one event that is valid for the run's number of harts. At most 2,000,000 events are applied. Without
     /// memory nothing changes.
+    #[inline]
     pub fn apply(&mut self, event: &Event) -> Result<(), NoMemory>
         requires few { self.old.harts ≤ 8 }
         requires valid { IsValidEvent event.now self.old.harts }
@@ -53,8 +55,7 @@ impl<L: Lifeguard> PlainMonitor<L> {
         ensures guard { self.new.guard ≡ self.old.guard }
         ensures harts { self.new.harts ≡ self.old.harts }
     {
-        let _ = event;
-        Err(NoMemory)
+        self.shadow.apply(self.guard, event)
     }
 
     /// The reports so far, in order.

@@ -79,6 +79,7 @@ impl Shadow {
     }
 
     /// The mask of a register below 34 of a hart below 8.
+    #[inline]
     pub fn mask(&self, hart: u8, reg: u8) -> u8
         requires hart { hart < 8 }
         requires register { reg < 34 }
@@ -88,6 +89,7 @@ impl Shadow {
     }
 
     /// The nibble of a byte; none exactly for a byte of no mapped page.
+    #[inline]
     pub fn byte(&self, addr: u32) -> Option<u8>
         ensures { result ≡ (state_of self.now).bytes addr }
     {

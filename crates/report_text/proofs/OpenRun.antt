@@ -1,11 +1,9 @@
 -- A run that is still open, in front of the runs of the bytes behind it.
-use Rattle.std.proofs.Common.{◌≡◌, ℕ, zero, suc, ◌+◌, ◌-◌, ◌<◌, ◌≤◌, List, [], ◌∷◌, ◌++◌, refl, sym, ap, ◌∙◌, arith}
+use Rattle.std.proofs.Common.{◌≡◌, ℕ, zero, suc, ◌+◌, ◌-◌, ◌<◌, ◌≤◌, Bool, true, false, cond, eqb, ◌&&◌, List, [], ◌∷◌, ◌++◌, refl, sym, ap, ◌∙◌, arith, add-one, append_assoc}
 use Rattle.std.specs.Prelude.{if◌then◌else◌, ◌==◌}
-use Rattle.report_text.specs.declared.runs.ByteRun.{ByteRun}
-use Rattle.std.proofs.Common.{Bool, true, false, cond, eqb, ◌&&◌, add-one}
 use Rattle.std.proofs.lemmas.Bool.{eq-eqb, ne_eqb}
-use Rattle.std.proofs.Common.{append_assoc}
 use Rattle.lifeguard.specs.State.{Bytes, nibble_at}
+use Rattle.report_text.specs.declared.runs.ByteRun.{ByteRun}
 use Rattle.report_text.specs.Runs.{onto_run, runs_from, ended_run}
 
 -- the bytes from first up to at have the nibble n; runs are those from at on
@@ -36,18 +34,21 @@ unfolding runs_from
 runs_begin bytes a zero = tt
 runs_begin bytes a (suc count) = BeginsFrom-onto a (nibble_at bytes a) (runs_from bytes (suc a) count) (rw add-one (runs_begin bytes (suc a) count))
 
+-- the next byte goes in front of the runs behind it
 pub runs_step : (bytes : Bytes) (a total : ℕ) → a < total → runs_from bytes a (total - a) ≡ onto_run a (nibble_at bytes a) (runs_from bytes (a + 1) (total - (a + 1)))
 unfolding runs_from
 runs_step bytes a total lt =
     let k : total - a ≡ suc (total - (a + 1)) = omega arith in
     rw (k, add-one) refl
 
+-- no byte behind
 pub runs_none : (bytes : Bytes) (a total : ℕ) → total ≤ a → runs_from bytes a (total - a) ≡ []
 unfolding runs_from
 runs_none bytes a total le =
     let k : total - a ≡ 0 = omega arith in
     rw k refl
 
+-- no run behind
 pub open_none : (first at n : ℕ) → open_run first at n [] ≡ ended_run first at n
 open_none first at zero = refl
 open_none first at (suc n) = refl
@@ -108,6 +109,7 @@ open_other first at n (suc m) runs begins ne = parts_by_onto first at n m runs n
 
 -- ---- the step of the loop
 
+-- the loop's next byte has the nibble of the open run
 pub passed_same : (bytes : Bytes) (done : List ByteRun) (first at n total : ℕ) (whole : List ByteRun) → at < total → nibble_at bytes at ≡ n
     → done ++ open_run first at n (runs_from bytes at (total - at)) ≡ whole → done ++ open_run first (at + 1) n (runs_from bytes (at + 1) (total - (at + 1))) ≡ whole
 passed_same bytes done first at n total whole lt is e =
@@ -115,6 +117,7 @@ passed_same bytes done first at n total whole lt is e =
     ap (open_run first at n) (runs_step bytes at total lt ∙ ap (λ (m : ℕ). onto_run at m (runs_from bytes (at + 1) (total - (at + 1)))) is) ∙ open_same first at n (runs_from bytes (at + 1) (total - (at + 1))) in
     ap (λ (t : List ByteRun). done ++ t) (sym step) ∙ e
 
+-- the loop's next byte has another nibble
 pub passed_other : (bytes : Bytes) (done : List ByteRun) (first at n m total : ℕ) (whole : List ByteRun) → at < total → nibble_at bytes at ≡ m → (m ≡ n → ⊥)
     → done ++ open_run first at n (runs_from bytes at (total - at)) ≡ whole → (done ++ ended_run first at n) ++ open_run at (at + 1) m (runs_from bytes (at + 1) (total - (at + 1))) ≡ whole
 passed_other bytes done first at n m total whole lt is ne e =
@@ -123,7 +126,11 @@ passed_other bytes done first at n m total whole lt is ne e =
     ap (open_run first at n) (runs_step bytes at total lt ∙ ap (λ (k : ℕ). onto_run at k later) is) ∙ open_other first at n m later (runs_begin bytes (at + 1) (total - (at + 1))) ne in
     append_assoc done (ended_run first at n) (open_run at (at + 1) m later) ∙ ap (λ (t : List ByteRun). done ++ t) (sym step) ∙ e
 
-pub passed_end : (bytes : Bytes) (done : List ByteRun) (first at n total : ℕ) (whole : List ByteRun) → total ≤ at
-    → done ++ open_run first at n (runs_from bytes at (total - at)) ≡ whole → done ++ ended_run first at n ≡ whole
-passed_end bytes done first at n total whole le e =
-    ap (λ (t : List ByteRun). done ++ t) (sym (ap (open_run first at n) (runs_none bytes at total le) ∙ open_none first at n)) ∙ e
+-- the end of memory ends the open run
+pub passed_end : (bytes : Bytes) (done : List ByteRun) (first at n total : ℕ) (whole : List ByteRun) → at ≡ total
+    → done ++ open_run first at n (runs_from bytes at (total - at)) ≡ whole → done ++ ended_run first total n ≡ whole
+passed_end bytes done first at n total whole is e =
+    let none : runs_from bytes at (total - at) ≡ [] = runs_none bytes at total (omega arith) in
+    let ended : open_run first at n (runs_from bytes at (total - at)) ≡ ended_run first total n =
+    ap (open_run first at n) none ∙ open_none first at n ∙ ap (λ k. ended_run first k n) is in
+    ap (λ (t : List ByteRun). done ++ t) (sym ended) ∙ e

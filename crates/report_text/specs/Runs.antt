@@ -21,8 +21,7 @@ runs_from bytes a (suc count) = onto_run a (nibble_at bytes a) (runs_from bytes 
 abbrev pub runs_of : Bytes → List ByteRun
 runs_of bytes = runs_from bytes 0 (2 ^ 24)
 
--- ---- what a longest run is, among the bytes from `low` up to `high`
-
+-- a run of bytes with one nibble that is not 0, which no byte from `low` up to before `high` makes longer
 pub record IsLongestRun (bytes : Bytes) (low high : ℕ) (run : ByteRun) : Type 0 where
   pub from : low ≤ run.first
   pub order : run.first ≤ run.last
@@ -37,7 +36,7 @@ pub record LiesIn (a : ℕ) (run : ByteRun) : Type 0 where
   pub from : run.first ≤ a
   pub upto : a ≤ run.last
 
--- all longest runs, by address
+-- these are all longest runs, by address: each byte whose nibble is not 0 lies in one
 pub record AreLongestRuns (bytes : Bytes) (low high : ℕ) (runs : List ByteRun) : Type 0 where
   pub each : All (IsLongestRun bytes low high) runs
   pub rising : AllPairs (λ run later. run.last < later.first) runs

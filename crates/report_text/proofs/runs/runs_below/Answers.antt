@@ -1,5 +1,5 @@
-use Rattle.std.proofs.Common.{◌≡◌, ◌++◌, arith, sym, ap, subst, ◌∙◌}
-use Rattle.report_text.specs.Runs.{ended_run, AreLongestRuns}
+use Rattle.std.proofs.Common.{◌≡◌, ◌++◌, arith, sym, subst, ◌∙◌}
+use Rattle.report_text.specs.Runs.{runs_from, ended_run, AreLongestRuns}
 use Rattle.report_text.proofs.Longest.{longest_below}
 use Rattle.report_text.proofs.OpenRun.{passed_same, passed_other, passed_end}
 use Rattle.report_text.proofs.runs.runs_below.Goals as goal
@@ -21,8 +21,9 @@ loop-at-preserved g c =
 
 pub returns-clause-runs : goal.returns-clause-runs
 returns-clause-runs g c =
-    let e : c.loop-at.at ≡ c.args.size = omega arith in
-    c.in_ok-close-2.ensures ∙ ap (λ k. c.loop-at.done.items ++ ended_run c.loop-at.first k c.loop-at.nibble) (sym e) ∙ passed_end (g.N.Nibbles.bytes c.args.nibbles.now) c.loop-at.done.items c.loop-at.first c.loop-at.at c.loop-at.nibble c.args.size _ (omega arith) c.loop-at.invariant.runs
+    let ended : c.loop-at.done.items ++ ended_run c.loop-at.first c.args.size c.loop-at.nibble ≡ runs_from (g.N.Nibbles.bytes c.args.nibbles.now) 0 c.args.size =
+    passed_end (g.N.Nibbles.bytes c.args.nibbles.now) c.loop-at.done.items c.loop-at.first c.loop-at.at c.loop-at.nibble c.args.size _ (omega arith) c.loop-at.invariant.runs in
+    cc (c.in_ok-close-2.ensures, ended)
 
 pub returns-clause-longest : goal.returns-clause-longest
 returns-clause-longest g c =

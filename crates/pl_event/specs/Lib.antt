@@ -1,3 +1,9 @@
 pub mod Alerts
+pub mod Conflicts
+pub mod Edges
+pub mod Feeds
+pub mod Graph
+pub mod Needs
 pub mod Numbers
+pub mod Records
 pub mod Valid

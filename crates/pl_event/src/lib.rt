@@ -7,11 +7,15 @@
 #![tactic(auto)]
 
 mod event;
+mod fed;
 mod log;
+mod order;
 mod streams;
 #[cfg(test)]
 mod tests;
 
 pub use event::{Event, Kind, is_alert, valid_event};
+pub use fed::{Fed, Feed};
 pub use log::{Arcs, Line, Lines, Log, PageKind, PageRun, PageRuns, Point, Record};
+pub use order::log_paths;
 pub use streams::stream;

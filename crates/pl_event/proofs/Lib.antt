@@ -1,0 +1,4 @@
+pub mod Edges
+pub mod Paths
+pub mod Places
+pub mod Sources

@@ -65,6 +65,11 @@ IsEndComplete (ending.Done reported) = Unit {0}
 IsEndComplete ending.NoMemory = Unit {0}
 IsEndComplete _ = ⊥
 
+-- for an input within the limit, and no fault counted, P holds
+abbrev pub IsAnswered : Command → Known → ℕ → ℕ → ℕ → ℕ → Type 0 → Type 0
+IsAnswered command left reads reads' writes writes' P =
+    IfSome left (λ bytes. length bytes ≤ limit_of command → IsInput command bytes → (Rose reads reads' → ⊥) → (Rose writes writes' → ⊥) → P)
+
 -- ---- notes
 
 abbrev pub cause_word : LogCause → List ℕ
@@ -86,6 +91,13 @@ IfQuiet status.Clean P = Unit {0}
 IfQuiet status.Reports P = Unit {0}
 IfQuiet status.WriteFault P = Unit {0}
 IfQuiet _ P = P
+
+-- the answer was written, or there was no memory
+abbrev pub IsComplete : Status → Type 0
+IsComplete status.Clean = Unit {0}
+IsComplete status.Reports = Unit {0}
+IsComplete status.NoMemory = Unit {0}
+IsComplete _ = ⊥
 
 -- the note of a status; at a bad log it names the line and the cause
 abbrev pub IsNoted : Status → Known → Known → ℕ → ℕ → Type 0

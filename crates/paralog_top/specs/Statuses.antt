@@ -20,9 +20,3 @@ abbrev pub IfDone : Status → (Bool → Type 0) → Type 0
 IfDone Clean P = P false
 IfDone Reports P = P true
 IfDone _ P = Unit {0}
-
--- the answer was written
-abbrev pub IsDone : Status → Type 0
-IsDone Clean = Unit {0}
-IsDone Reports = Unit {0}
-IsDone _ = ⊥

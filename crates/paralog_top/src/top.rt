@@ -1,11 +1,12 @@
-ghost use Rattle.std.specs.Prelude.{◌≡◌, ◌↔◌, ◌<◌, ◌≤◌, ◌⊎◌, ℕ, length, map, string_bytes, IfSome};
+ghost use Rattle.std.specs.Prelude.{◌≡◌, ◌↔◌, ◌<◌, length, map, string_bytes, IfSome};
 ghost use Rattle.std.specs.Io.KnownBytes.{Keeps};
 ghost use Rattle.pl_base.specs.Causes.{Rose};
+ghost use Rattle.log_text.specs.declared.cause.LogFault.{LogFault};
 ghost use Rattle.paralog_top.specs.declared.command.Command.{Command};
 ghost use Rattle.paralog_top.specs.Commands.{IsCommand, IsNoCommand};
-ghost use Rattle.paralog_top.specs.Defined.{IsInput, limit_of};
-ghost use Rattle.paralog_top.specs.Endings.{ReadWhole, WritesAnswer, WritesLess, IsBadLog, IfEndsDone, IfEndsBadLog, IfEndsQuiet, IsEndComplete, IfQuiet, IsNoted};
-ghost use Rattle.paralog_top.specs.Statuses.{IfDone, IsDone};
+ghost use Rattle.paralog_top.specs.Defined.{limit_of};
+ghost use Rattle.paralog_top.specs.Endings.{ReadWhole, WritesAnswer, WritesLess, IsBadLog, IfEndsDone, IfEndsBadLog, IfEndsQuiet, IsEndComplete, IfQuiet, IsNoted, Noted, IsAnswered, IsComplete, log_note};
+ghost use Rattle.paralog_top.specs.Statuses.{IfDone};
 
 use crate::command::{Command, parse_command};
 use crate::ending::Ending;
@@ -28,6 +29,30 @@ pub fn plain_top<S: Source, K: Sink, E: Sink>(
     out: &mut K,
     notes: &mut E,
 ) -> Status
+    // The headline: all that the source had left is a log, and what was written is the text of its plain result.
+    ensures done { IfDone result (λ reported. (command : Command) × IsCommand (map string_bytes words.now) command
+        × ReadWhole (S.left source.old) (S.left source.new) (limit_of command) (λ bytes. WritesAnswer command bytes reported (K.written out.old) (K.written out.new))) }
+
+    // The refusals, each with its cause.
+    ensures usage { (result ≡ Status.Usage) ↔ IsNoCommand (map string_bytes words.now) }
+    ensures unread { result ≡ Status.Usage → source.new ≡ source.old }
+    ensures bad_log { result ≡ Status.BadLog → (command : Command) × (fault : LogFault) × IsCommand (map string_bytes words.now) command
+        × ReadWhole (S.left source.old) (S.left source.new) (limit_of command) (λ bytes. IsBadLog bytes fault)
+        × Noted (E.written notes.old) (E.written notes.new) (E.faults notes.old) (E.faults notes.new) (log_note fault) }
+    ensures read_fault { result ≡ Status.ReadFault → Rose (S.faults source.old) (S.faults source.new) }
+    ensures too_long { result ≡ Status.TooLong → (command : Command) × IsCommand (map string_bytes words.now) command
+        × IfSome (S.left source.old) (λ bytes. limit_of command < length bytes) }
+    ensures write_fault { result ≡ Status.WriteFault → Rose (K.faults out.old) (K.faults out.new) }
+
+    // What is left behind.
+    ensures quiet { IfQuiet result (Keeps (K.written out.old) (K.written out.new)) }
+    ensures front { result ≡ Status.WriteFault → (command : Command) × IsCommand (map string_bytes words.now) command
+        × ReadWhole (S.left source.old) (S.left source.new) (limit_of command) (λ bytes. WritesLess command bytes (K.written out.old) (K.written out.new)) }
+    ensures notes { IsNoted result (E.written notes.old) (E.written notes.new) (E.faults notes.old) (E.faults notes.new) }
+
+    // Completeness.
+    ensures complete { (command : Command) → IsCommand (map string_bytes words.now) command
+        → IsAnswered command (S.left source.old) (S.faults source.old) (S.faults source.new) (K.faults out.old) (K.faults out.new) (IsComplete result) }
 {
     let Some(command) = parse_command(words) else {
         note(notes, b"paralog: usage\n");
@@ -66,6 +91,7 @@ fn run<S: Source, K: Sink>(alloc: Global, command: Command, source: &mut S, out:
     ensures write_fault { result ≡ Ending.WriteFault → Rose (K.faults out.old) (K.faults out.new) }
     ensures front { result ≡ Ending.WriteFault → ReadWhole (S.left source.old) (S.left source.new) (limit_of command) (λ bytes.
         WritesLess command bytes (K.written out.old) (K.written out.new)) }
+    ensures complete { IsAnswered command (S.left source.old) (S.faults source.old) (S.faults source.new) (K.faults out.old) (K.faults out.new) (IsEndComplete result) }
     ensures quiet { IfEndsQuiet result (Keeps (K.written out.old) (K.written out.new)) }
 {
     let bytes = match read_all(alloc, source, input_limit(command)) {

@@ -2,3 +2,5 @@ pub mod Edges
 pub mod Paths
 pub mod Places
 pub mod Sources
+pub mod RowLemmas
+pub mod StreamLemmas

@@ -6,4 +6,5 @@ pub mod Graph
 pub mod Needs
 pub mod Numbers
 pub mod Records
+pub mod Rows
 pub mod Valid

@@ -8,6 +8,7 @@
 
 mod event;
 mod fed;
+mod lines;
 mod log;
 mod order;
 mod streams;
@@ -16,6 +17,7 @@ mod tests;
 
 pub use event::{Event, Kind, is_alert, valid_event};
 pub use fed::{Fed, Feed};
-pub use log::{Arcs, Line, Lines, Log, PageKind, PageRun, PageRuns, Point, Record};
+pub use lines::Lines;
+pub use log::{Arcs, Line, Log, PageKind, PageRun, PageRuns, Point, Record};
 pub use order::log_paths;
-pub use streams::stream;
+pub use streams::{record_hart, stream};

@@ -75,7 +75,7 @@ fn a_stream_has_the_notices_of_its_hart(rt: HostRuntime) -> Result<(), Fail> {
     lines.push(line(notice))?;
     lines.push(line(end))?;
     lines.push(line(notice))?;
-    assert_eq!(rt; lines.as_slice().len(), 3);
+    assert_eq!(rt; lines.len(), 3);
     let log = Log {
         harts: 2,
         block: 16,

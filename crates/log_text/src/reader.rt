@@ -1,5 +1,6 @@
 ghost use Rattle.std.specs.Prelude.{◌≡◌, ◌≤◌, ◌<◌, ◌+◌, ◌%◌, ◌^◌, ◌==◌, false, None, OnOk, OnErr, nat_le, nat_lt, sum_by, count_by};
 ghost use Rattle.std.specs.List.{list_any};
+ghost use Rattle.pl_base.specs.Widths.{load_bytes, store_bytes};
 ghost use Rattle.pl_event.specs.Numbers.{hart_of};
 ghost use Rattle.log_text.specs.Begins.{entry_from};
 ghost use Rattle.log_text.specs.Spelling.{entries_of};
@@ -8,7 +9,8 @@ ghost use Rattle.log_text.specs.WellFormed.{broken, breaks_page, is_row, page_en
 
 use crate::item::Item;
 use crate::rule::Rule;
-use pl_event::{Arcs, Kind, Line, Lines, Log, PageRun, PageRuns, Record};
+use pl_base::{LoadWidth, StoreWidth};
+use pl_event::{Kind, Lines, Log, PageRun, PageRuns, Record, record_hart};
 use std::alloc::{AllocError, Global};
 
 /// How many records a log can have.
@@ -106,19 +108,19 @@ impl Reader {
     fn has_records(&self) -> bool
         ensures { result ≡ list_any is_row (entries_of self.now.log) }
     {
-        !self.log.lines.as_slice().is_empty()
+        self.log.lines.len() != 0
     }
 
     fn breaks_records(&self) -> bool
         ensures { result ≡ nat_le 2000000 (count_by is_row (entries_of self.now.log)) }
     {
-        self.log.lines.as_slice().len() >= MAX_RECORDS
+        self.log.lines.len() >= MAX_RECORDS
     }
 
     fn breaks_hart(&self, what: Record) -> bool
         ensures { result ≡ nat_le self.now.log.harts (hart_of what) }
     {
-        hart_of(what) >= self.log.harts
+        record_hart(&what) >= self.log.harts
     }
 
     /// One more line, which breaks no rule. Without memory the lines stay.
@@ -148,11 +150,7 @@ impl Reader {
         ensures ok { OnOk result (self.new.log ≡ with_item self.old.log (Item.Row what)) }
         ensures err { OnErr result (self.new.log ≡ self.old.log) }
     {
-        self.log.lines.push(Line {
-            what,
-            arcs: Arcs::none(),
-        })?;
-        Ok(())
+        self.log.lines.push_record(what)
     }
 
     /// The log of the lines so far.
@@ -165,15 +163,6 @@ impl Reader {
             mapped: _,
         } = self;
         log
-    }
-}
-
-fn hart_of(what: Record) -> u8
-    ensures { result ≡ hart_of what }
-{
-    match what {
-        Record::Event(event) => event.hart,
-        Record::Notice { hart, of: _ } => hart,
     }
 }
 
@@ -190,17 +179,30 @@ fn is_misaligned(kind: Kind) -> bool
     ensures { result ≡ is_misaligned kind }
 {
     match kind {
-        Kind::Ld { width, addr, .. } => !is_multiple(addr, width.bytes()),
-        Kind::St { width, addr, .. } => !is_multiple(addr, width.bytes()),
+        Kind::Ld { width, addr, .. } => !is_load_aligned(addr, width),
+        Kind::St { width, addr, .. } => !is_store_aligned(addr, width),
         _ => false,
     }
 }
 
-fn is_multiple(addr: u32, width: u8) -> bool
-    requires { 0 < width }
-    ensures { result ≡ ((addr % width) == 0) }
+fn is_load_aligned(addr: u32, width: LoadWidth) -> bool
+    ensures { result ≡ ((addr % load_bytes width) == 0) }
 {
-    addr % u32::from(width) == 0
+    match width {
+        LoadWidth::B | LoadWidth::Bu => true,
+        LoadWidth::H | LoadWidth::Hu => addr % 2 == 0,
+        LoadWidth::W => addr % 4 == 0,
+    }
+}
+
+fn is_store_aligned(addr: u32, width: StoreWidth) -> bool
+    ensures { result ≡ ((addr % store_bytes width) == 0) }
+{
+    match width {
+        StoreWidth::B => true,
+        StoreWidth::H => addr % 2 == 0,
+        StoreWidth::W => addr % 4 == 0,
+    }
 }
 
 fn breaks_range(what: Record) -> bool

@@ -9,10 +9,12 @@ use Rattle.pl_event.specs.declared.log.Record.{Record}
 use Rattle.pl_event.specs.declared.log.Record.TheVariants as entry
 use Rattle.pl_event.specs.Numbers.{events_of, event_of}
 
--- one more line
-pub events-more : (lines : List Line) (i : ℕ) (line : Line) → i < length lines → line ≡ get_or lines i line → events_of (take (i + 1) lines) ≡ events_of (take i lines) ++ cons_option (event_of line.what) []
-events-more lines i line lt is =
-    ap events_of (take_more lines i line lt ∙ ap (λ (l : Line). take i lines ++ l ∷ []) (sym is)) ∙ filter_map-append (λ l. event_of l.what) (take i lines) (line ∷ [])
+-- one more line, of which the record is known
+pub events-more : (lines : List Line) (i : ℕ) (what : Record) → i < length lines → ((d : Line) → what ≡ (get_or lines i d).what) → events_of (take (i + 1) lines) ≡ events_of (take i lines) ++ cons_option (event_of what) []
+events-more lines i what lt is =
+    let d : Line = record { what = what; arcs = [] } in
+    ap events_of (take_more lines i d lt) ∙ filter_map-append (λ l. event_of l.what) (take i lines) (get_or lines i d ∷ [])
+    ∙ ap (λ (w : Record). events_of (take i lines) ++ cons_option (event_of w) []) (sym (is d))
 
 few_of : (what : Record) (events : List Event) → length (cons_option (event_of what) events) ≤ suc (length events)
 few_of (entry.Event event) events = omega arith

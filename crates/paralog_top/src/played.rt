@@ -3,12 +3,12 @@ ghost use Rattle.std.specs.List.{cons_option};
 ghost use Rattle.pl_event.specs.declared.event.Event.{Event};
 ghost use Rattle.pl_event.specs.declared.log.PageRun.{PageRun};
 ghost use Rattle.pl_event.specs.Numbers.{events_of, event_of};
-ghost use Rattle.log_text.specs.Parts.{IsValidLine};
+ghost use Rattle.log_text.specs.Parts.{IsValidLine, IsValidRecord};
 ghost use Rattle.lifeguard.specs.Stands.{Stands, place_of};
 
 use lifeguard::{Lifeguard, PlainMonitor};
 use pl_base::NoMemory;
-use pl_event::{Line, PageRun, Record};
+use pl_event::{Lines, PageRun, Record};
 use std::alloc::Global;
 
 /// The plain monitor of all events of the lines, in order.
@@ -17,7 +17,7 @@ pub fn play<L: Lifeguard>(
     guard: L,
     harts: u8,
     pages: &[PageRun],
-    lines: &[Line],
+    lines: &Lines,
 ) -> Result<PlainMonitor<L>, NoMemory>
     requires few { harts ≤ 8 }
     requires inside { All (λ run. run.first + run.count ≤ 4096) pages.now }
@@ -27,23 +27,24 @@ pub fn play<L: Lifeguard>(
     ensures harts { IfOk result (λ monitor. monitor.harts ≡ harts) }
 {
     let mut monitor = PlainMonitor::new(alloc, guard, harts, pages)?;
-    for line in lines {
-        apply_line(&mut monitor, line)?;
+    for i in 0..lines.len() {
+        apply_record(&mut monitor, lines.record(i))?;
     }
     Ok(monitor)
 }
 
-/// Applies the event of a line; a notice has none.
-fn apply_line<L: Lifeguard>(monitor: &mut PlainMonitor<L>, line: &Line) -> Result<(), NoMemory>
+/// Applies the event of a record; a notice has none.
+#[inline]
+fn apply_record<L: Lifeguard>(monitor: &mut PlainMonitor<L>, what: Record) -> Result<(), NoMemory>
     requires few { monitor.old.harts ≤ 8 }
-    requires valid { IsValidLine monitor.old.harts line.now }
+    requires valid { IsValidRecord monitor.old.harts what }
     requires room { place_of monitor.old.shadow < 2000000 }
     ensures stands { OnOk result ((pages : List PageRun) (events : List Event) → Stands (L.rules monitor.old.guard) pages events monitor.old.shadow
-        → Stands (L.rules monitor.old.guard) pages (events ++ cons_option (event_of line.now.what) []) monitor.new.shadow) }
+        → Stands (L.rules monitor.old.guard) pages (events ++ cons_option (event_of what) []) monitor.new.shadow) }
     ensures guard { monitor.new.guard ≡ monitor.old.guard }
     ensures harts { monitor.new.harts ≡ monitor.old.harts }
 {
-    match line.what {
+    match what {
         Record::Event(event) => monitor.apply(&event),
         Record::Notice { .. } => Ok(()),
     }

@@ -40,7 +40,7 @@ fn result_of<L: Lifeguard>(alloc: Global, guard: L, log: &Log) -> Result<Answer,
         guard,
         log.harts,
         log.pages.as_slice(),
-        log.lines.as_slice(),
+        &log.lines,
     )?;
     let masks = mask_table(alloc, &monitor)?;
     let runs = runs_of_plain(alloc, &monitor)?;

@@ -1,0 +1,4 @@
+pub mod Lookup
+pub mod Rows
+pub mod Reading
+pub mod FieldRanges

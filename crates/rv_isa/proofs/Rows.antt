@@ -12,7 +12,7 @@ use Rattle.rv_isa.specs.Fields.{bits}
 use Rattle.rv_isa.specs.Table.{Operation, Fixed, opcode, funct3, funct7, row, operations, is_in, IsIn, operation_of, instruction_of, with_fields, lui, auipc, jal, jalr, branch, load, store, op_imm, op, fence, ecall}
 use Rattle.rv_isa.proofs.Lookup.{chosen, at_opcode, at_funct3, at_funct7, at_upper}
 
-both : (a b : Bool) → IsTrue (a && b) → IsTrue a × IsTrue b
+pub both : (a b : Bool) → IsTrue (a && b) → IsTrue a × IsTrue b
 both true b h = (refl, h)
 both false b h = absurd (cc)
 

@@ -6,9 +6,11 @@
 #![tactic(auto)]
 
 mod decoding;
+mod encoding;
 mod instruction;
 mod range;
 
 pub use decoding::decode;
+pub use encoding::encode;
 pub use instruction::{BranchOp, ImmOp, Instr, RegOp};
 pub use range::valid;

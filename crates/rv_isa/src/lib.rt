@@ -8,6 +8,7 @@
 mod decoding;
 mod encoding;
 mod instruction;
+mod listing;
 mod range;
 
 pub use decoding::decode;

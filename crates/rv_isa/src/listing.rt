@@ -1,0 +1,126 @@
+ghost use Rattle.std.specs.Prelude.{◌≡◌, IfOk, string_bytes};
+ghost use Rattle.rv_isa.specs.Table.{row, branch, load, store, op_imm, op};
+ghost use Rattle.rv_isa.specs.Valid.{IsValid};
+ghost use Rattle.rv_isa.specs.Listing.{operation, text};
+
+use crate::instruction::{BranchOp, ImmOp, Instr, RegOp};
+use pl_base::{LoadWidth, StoreWidth};
+use std::alloc::{AllocError, Global};
+
+fn shown(alloc: Global, i: &Instr) -> Result<String, AllocError>
+    ensures { IfOk result (λ shown. string_bytes shown ≡ text i.now) }
+{
+    let name = mnemonic(i);
+    match *i {
+        Instr::Lui { rd, imm } | Instr::Auipc { rd, imm } => {
+            format!(in alloc; "{name} x{rd}, {imm}")
+        }
+        Instr::Jal { rd, off } => format!(in alloc; "{name} x{rd}, {off}"),
+        Instr::Jalr { rd, rs1, imm } | Instr::Load { width: _, rd, rs1, imm } => {
+            format!(in alloc; "{name} x{rd}, {imm}(x{rs1})")
+        }
+        Instr::Branch { op: _, rs1, rs2, off } => {
+            format!(in alloc; "{name} x{rs1}, x{rs2}, {off}")
+        }
+        Instr::Store { width: _, rs2, rs1, imm } => {
+            format!(in alloc; "{name} x{rs2}, {imm}(x{rs1})")
+        }
+        Instr::OpImm { op: _, rd, rs1, imm } => format!(in alloc; "{name} x{rd}, x{rs1}, {imm}"),
+        Instr::Op { op: _, rd, rs1, rs2 } => format!(in alloc; "{name} x{rd}, x{rs1}, x{rs2}"),
+        Instr::Fence { bits: _ } | Instr::Ecall => format!(in alloc; "{name}"),
+    }
+}
+
+fn mnemonic(i: &Instr) -> &'static str
+    ensures { result.now ≡ (row (operation i.now)).mnemonic }
+{
+    match *i {
+        Instr::Lui { rd: _, imm: _ } => "lui",
+        Instr::Auipc { rd: _, imm: _ } => "auipc",
+        Instr::Jal { rd: _, off: _ } => "jal",
+        Instr::Jalr { rd: _, rs1: _, imm: _ } => "jalr",
+        Instr::Branch { op, rs1: _, rs2: _, off: _ } => branch_name(op),
+        Instr::Load { width, rd: _, rs1: _, imm: _ } => load_name(width),
+        Instr::Store { width, rs2: _, rs1: _, imm: _ } => store_name(width),
+        Instr::OpImm { op, rd: _, rs1: _, imm: _ } => imm_name(op),
+        Instr::Op { op, rd: _, rs1: _, rs2: _ } => reg_name(op),
+        Instr::Fence { bits: _ } => "fence",
+        Instr::Ecall => "ecall",
+    }
+}
+
+fn branch_name(op: BranchOp) -> &'static str
+    ensures { result.now ≡ (row (branch op)).mnemonic }
+{
+    match op {
+        BranchOp::Beq => "beq",
+        BranchOp::Bne => "bne",
+        BranchOp::Blt => "blt",
+        BranchOp::Bge => "bge",
+        BranchOp::Bltu => "bltu",
+        BranchOp::Bgeu => "bgeu",
+    }
+}
+
+fn load_name(width: LoadWidth) -> &'static str
+    ensures { result.now ≡ (row (load width)).mnemonic }
+{
+    match width {
+        LoadWidth::B => "lb",
+        LoadWidth::H => "lh",
+        LoadWidth::W => "lw",
+        LoadWidth::Bu => "lbu",
+        LoadWidth::Hu => "lhu",
+    }
+}
+
+fn store_name(width: StoreWidth) -> &'static str
+    ensures { result.now ≡ (row (store width)).mnemonic }
+{
+    match width {
+        StoreWidth::B => "sb",
+        StoreWidth::H => "sh",
+        StoreWidth::W => "sw",
+    }
+}
+
+fn imm_name(op: ImmOp) -> &'static str
+    ensures { result.now ≡ (row (op_imm op)).mnemonic }
+{
+    match op {
+        ImmOp::Addi => "addi",
+        ImmOp::Slti => "slti",
+        ImmOp::Sltiu => "sltiu",
+        ImmOp::Xori => "xori",
+        ImmOp::Ori => "ori",
+        ImmOp::Andi => "andi",
+        ImmOp::Slli => "slli",
+        ImmOp::Srli => "srli",
+        ImmOp::Srai => "srai",
+    }
+}
+
+fn reg_name(operation: RegOp) -> &'static str
+    ensures { result.now ≡ (row (op operation)).mnemonic }
+{
+    match operation {
+        RegOp::Add => "add",
+        RegOp::Sub => "sub",
+        RegOp::Sll => "sll",
+        RegOp::Slt => "slt",
+        RegOp::Sltu => "sltu",
+        RegOp::Xor => "xor",
+        RegOp::Srl => "srl",
+        RegOp::Sra => "sra",
+        RegOp::Or => "or",
+        RegOp::And => "and",
+        RegOp::Mul => "mul",
+        RegOp::Mulh => "mulh",
+        RegOp::Mulhsu => "mulhsu",
+        RegOp::Mulhu => "mulhu",
+        RegOp::Div => "div",
+        RegOp::Divu => "divu",
+        RegOp::Rem => "rem",
+        RegOp::Remu => "remu",
+    }
+}

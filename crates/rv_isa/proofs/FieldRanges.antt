@@ -1,12 +1,12 @@
 -- The fields of a word are in their ranges.
-use Rattle.std.proofs.Common.{◌≡◌, ℕ, suc, ◌+◌, ◌-◌, ◌*◌, ◌/◌, ◌%◌, ◌^◌, ◌<◌, ◌≤◌, ℤ, pos, negsuc, neg_ℤ, ◌-ℤ◌, ◌≤ℤ◌, ◌<ℤ◌, nat_lt, cond, true, false, Bool, refl, arith, sym, ap, subst, ◌∙◌, ◌⊎◌, inl, inr}
+use Rattle.std.proofs.Common.{◌≡◌, ℕ, suc, ◌+◌, ◌-◌, ◌*◌, ◌%◌, ◌^◌, ◌<◌, ◌≤◌, pos, negsuc, neg_ℤ, ◌-ℤ◌, ◌≤ℤ◌, ◌<ℤ◌, arith, ◌∙◌, inl, inr}
 use Rattle.std.specs.Prelude.{unsigned_abs}
 use Rattle.std.proofs.lemmas.Int.{ints}
 use Rattle.std.proofs.lemmas.Bool.{cases_lt}
 use Rattle.std.proofs.lemmas.Bool.Decides.{nat_tests}
 use Rattle.rv_isa.specs.declared.instruction.ImmOp.TheVariants.{Addi, Slti, Sltiu, Xori, Ori, Andi, Slli, Srli, Srai}
-use Rattle.rv_isa.specs.Fields.{bits, rd_of, rs1_of, rs2_of, signed, immediate, I, S, B, J, Shift}
-use Rattle.rv_isa.specs.Table.{Operation, with_fields, row, lui, auipc, jal, jalr, branch, load, store, op_imm, op, fence, ecall}
+use Rattle.rv_isa.specs.Fields.{bits, signed, immediate, I, S, B, J, Shift}
+use Rattle.rv_isa.specs.Table.{Operation, with_fields, lui, auipc, jal, jalr, branch, load, store, op_imm, op, fence, ecall}
 use Rattle.rv_isa.specs.Valid.{IsValid, IsWithin, IsOffset}
 
 -- `signed` by cases on the sign
@@ -21,21 +21,22 @@ signed_high sign n h k =
 pub signed_within : (sign n : ℕ) → n < 2 * sign → (neg_ℤ (pos sign) ≤ℤ signed sign n) × (signed sign n <ℤ pos sign)
 signed_within sign n h =
     elim (cases_lt n sign) [
-        inl low ↦ rw (signed_low sign n low) (omega (arith, ints), omega (arith, ints))
-        | inr high ↦ rw (signed_high sign n high h) (omega (arith, ints), omega (arith, ints))
+      | inl low ↦ rw (signed_low sign n low) (omega (arith, ints), omega (arith, ints))
+      | inr high ↦ rw (signed_high sign n high h) (omega (arith, ints), omega (arith, ints))
     ]
 
 pub signed_even : (sign n : ℕ) → n < 2 * sign → n % 2 ≡ 0 → unsigned_abs (signed sign n) % 2 ≡ 0
 signed_even sign n h e =
     elim (cases_lt n sign) [
-        inl low ↦ rw (signed_low sign n low) e
-        | inr high ↦ rw (signed_high sign n high h) (omega arith)
+      | inl low ↦ rw (signed_low sign n low) e
+      | inr high ↦ rw (signed_high sign n high h) (omega arith)
     ]
 
 immediate_within : (w : ℕ) → (IsWithin 11 (immediate I w)) × (IsWithin 11 (immediate S w))
 immediate_within w = (
-    (signed_within (2 ^ 11) (bits 20 12 w) (omega arith)),
-    (signed_within (2 ^ 11) (bits 25 7 w * 2 ^ 5 + bits 7 5 w) (omega arith)))
+  (signed_within (2 ^ 11) (bits 20 12 w) (omega arith)),
+  (signed_within (2 ^ 11) (bits 25 7 w * 2 ^ 5 + bits 7 5 w) (omega arith)),
+)
 
 offset_of : (k n : ℕ) → n < 2 * 2 ^ k → n % 2 ≡ 0 → IsOffset k (signed (2 ^ k) n)
 offset_of k n h e = (signed_within (2 ^ k) n h, signed_even (2 ^ k) n h e)

@@ -4,3 +4,4 @@ pub mod Reading
 pub mod FieldRanges
 pub mod Unique
 pub mod Writing
+pub mod Texts

@@ -1,5 +1,5 @@
 -- Which row the fixed fields of a word select.
-use Rattle.std.proofs.Common.{◌≡◌, ◌≢◌, ◌==◌, ℕ, ◌+◌, ◌*◌, ◌/◌, ◌%◌, ◌^◌, ◌<◌, Option, Some, None, cond, refl, arith, sym, ap, ◌∙◌, ℤ}
+use Rattle.std.proofs.Common.{◌≡◌, ◌≢◌, ◌==◌, ℕ, ◌+◌, ◌*◌, ◌%◌, ◌^◌, Option, Some, None, cond, refl, arith, sym, ap, ◌∙◌, ℤ}
 use Rattle.std.specs.List.{find, list_all}
 use Rattle.std.specs.Option.{option_map}
 use Rattle.std.proofs.Math.Bool.{and-false}
@@ -11,8 +11,7 @@ use Rattle.rv_isa.specs.declared.instruction.ImmOp.{ImmOp}
 use Rattle.rv_isa.specs.declared.instruction.RegOp.{RegOp}
 use Rattle.rv_isa.specs.declared.instruction.Instr.TheVariants.{Lui, Auipc, Jal, Jalr, Branch, Load, Store, OpImm, Op, Fence}
 use Rattle.rv_isa.specs.Fields.{bits, rd_of, rs1_of, rs2_of, immediate, I, S, B, J}
-use Rattle.rv_isa.specs.declared.instruction.Instr.{Instr}
-use Rattle.rv_isa.specs.Table.{Operation, Fixed, row, operations, is_in, operation_of, instruction_of, with_fields, lui, auipc, jal, jalr, branch, load, store, op_imm, op, fence, ecall}
+use Rattle.rv_isa.specs.Table.{Operation, row, operations, operation_of, instruction_of, with_fields, lui, auipc, jal, jalr, branch, load, store, op_imm, op, fence}
 
 -- one of four fields, by where it begins
 abbrev pub pick : ℕ → ℕ → ℕ → ℕ → ℕ → ℕ

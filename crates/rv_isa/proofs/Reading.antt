@@ -1,5 +1,5 @@
 -- What a word is, from the row that it is in, and back.
-use Rattle.std.proofs.Common.{◌≡◌, ℕ, ◌+◌, ◌-◌, ◌*◌, ◌/◌, ◌%◌, ◌^◌, ◌<◌, ◌≤◌, Option, Some, None, IsSome, IsNone, IfSome, ◌↔◌, ℤ, pos, negsuc, cond, refl, arith, sym, ap, subst, ◌∙◌, ◌-ℤ◌}
+use Rattle.std.proofs.Common.{◌≡◌, ℕ, Option, Some, None, IsNone, IfSome, ◌↔◌, refl}
 use Rattle.std.specs.Option.{option_map}
 use Rattle.rv_isa.specs.declared.instruction.Instr.{Instr}
 use Rattle.rv_isa.specs.Table.{Operation, IsIn, operation_of, instruction_of, with_fields}
@@ -18,10 +18,10 @@ pub found : (w : ℕ) (i : Instr) → instruction_of w ≡ Some i → Found w i
 unfolding instruction_of
 found w i e =
     let split : (v : Option Operation) → operation_of w ≡ v → option_map (λ o. with_fields o w) v ≡ Some i → Found w i = λ v.
-        elim v as (λ v. operation_of w ≡ v → option_map (λ o. with_fields o w) v ≡ Some i → Found w i) [
-            None ↦ λ f g. absurd (cc)
-            | Some o ↦ λ f g. record { o = o; is_in = is_in_row w o f; is = cc }
-        ] in
+    elim v as (λ v. operation_of w ≡ v → option_map (λ o. with_fields o w) v ≡ Some i → Found w i) [
+      | None ↦ λ f g. absurd (cc)
+      | Some o ↦ λ f g. record { o = o; is_in = is_in_row w o f; is = cc }
+    ] in
     split (operation_of w) refl e
 
 pub of_row : (w : ℕ) (o : Operation) → IsIn w o → instruction_of w ≡ Some (with_fields o w)
@@ -37,6 +37,6 @@ pub valid_where_read : (w : ℕ) → IfSome (instruction_of w) IsValid
 unfolding instruction_of
 valid_where_read w =
     elim (operation_of w) as (λ v. IfSome (option_map (λ o. with_fields o w) v) IsValid) [
-        None ↦ tt
-        | Some o ↦ fields_valid o w
+      | None ↦ tt
+      | Some o ↦ fields_valid o w
     ]

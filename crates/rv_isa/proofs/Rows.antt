@@ -1,5 +1,5 @@
 -- Each word is in one row at most, and what it is there is a valid instruction.
-use Rattle.std.proofs.Common.{◌≡◌, ◌≢◌, ◌==◌, ℕ, ◌+◌, ◌-◌, ◌*◌, ◌/◌, ◌%◌, ◌^◌, ◌<◌, ◌≤◌, Option, Some, None, Bool, true, false, IsTrue, cond, refl, arith, sym, ap, ◌∙◌, ◌&&◌, List, [], ◌∷◌}
+use Rattle.std.proofs.Common.{◌≡◌, ◌==◌, ℕ, Some, None, Bool, true, false, IsTrue, cond, refl, arith, ◌∙◌, ◌&&◌, List, [], ◌∷◌}
 use Rattle.std.specs.List.{find, list_all}
 use Rattle.std.proofs.lemmas.Bool.{eqb-true}
 use Rattle.pl_base.specs.declared.widths.LoadWidth.TheVariants as loads
@@ -7,9 +7,8 @@ use Rattle.pl_base.specs.declared.widths.StoreWidth.TheVariants as stores
 use Rattle.rv_isa.specs.declared.instruction.BranchOp.TheVariants.{Beq, Bne, Blt, Bge, Bltu, Bgeu}
 use Rattle.rv_isa.specs.declared.instruction.ImmOp.TheVariants.{Addi, Slti, Sltiu, Xori, Ori, Andi, Slli, Srli, Srai}
 use Rattle.rv_isa.specs.declared.instruction.RegOp.TheVariants.{Add, Sub, Sll, Slt, Sltu, Xor, Srl, Sra, Or, And, Mul, Mulh, Mulhsu, Mulhu, Div, Divu, Rem, Remu}
-use Rattle.rv_isa.specs.declared.instruction.Instr.{Instr}
 use Rattle.rv_isa.specs.Fields.{bits}
-use Rattle.rv_isa.specs.Table.{Operation, Fixed, opcode, funct3, funct7, row, operations, is_in, IsIn, operation_of, instruction_of, with_fields, lui, auipc, jal, jalr, branch, load, store, op_imm, op, fence, ecall}
+use Rattle.rv_isa.specs.Table.{Operation, Fixed, opcode, funct3, funct7, operations, is_in, IsIn, operation_of, lui, auipc, jal, jalr, branch, load, store, op_imm, op, fence, ecall}
 use Rattle.rv_isa.proofs.Lookup.{chosen, at_opcode, at_funct3, at_funct7, at_upper}
 
 pub both : (a b : Bool) → IsTrue (a && b) → IsTrue a × IsTrue b
@@ -97,20 +96,20 @@ find_passes : {X : Type 0} (p : X → Bool) (xs : List X) (x : X) → find p xs 
 find_passes p [] x e = absurd (cc)
 find_passes {X} p (y ∷ ys) x e =
     let split : (b : Bool) → p y ≡ b → cond b (Some y) (find p ys) ≡ Some x → IsTrue (p x) = λ b.
-        elim b as (λ v. p y ≡ v → cond v (Some y) (find p ys) ≡ Some x → IsTrue (p x)) [
-            true ↦ λ is found. let same : x ≡ y = cc in rw (same, is) refl
-            | false ↦ λ is found. find_passes p ys x found
-        ] in
+    elim b as (λ v. p y ≡ v → cond v (Some y) (find p ys) ≡ Some x → IsTrue (p x)) [
+      | true ↦ λ is found. let same : x ≡ y = cc in rw (same, is) refl
+      | false ↦ λ is found. find_passes p ys x found
+    ] in
     split (p y) refl e
 
 find_none : {X : Type 0} (p : X → Bool) (xs : List X) → ((x : X) → IsTrue (p x) → ⊥) → find p xs ≡ None
 find_none p [] h = refl
 find_none {X} p (y ∷ ys) h =
     let split : (b : Bool) → (IsTrue b → ⊥) → cond b (Some y) (find p ys) ≡ find p ys = λ b.
-        elim b as (λ v. (IsTrue v → ⊥) → cond v (Some y) (find p ys) ≡ find p ys) [
-            true ↦ λ no. absurd (no refl)
-            | false ↦ λ no. refl
-        ] in
+    elim b as (λ v. (IsTrue v → ⊥) → cond v (Some y) (find p ys) ≡ find p ys) [
+      | true ↦ λ no. absurd (no refl)
+      | false ↦ λ no. refl
+    ] in
     split (p y) (h y) ∙ find_none p ys (λ x. h x)
 
 -- what is read is in its row

@@ -1,5 +1,5 @@
 -- A word below 2^32 is the only one of its instruction.
-use Rattle.std.proofs.Common.{◌≡◌, ◌==◌, ℕ, suc, ◌+◌, ◌-◌, ◌*◌, ◌/◌, ◌%◌, ◌^◌, ◌<◌, ◌≤◌, Option, Some, None, Bool, true, false, IsTrue, ℤ, pos, negsuc, cond, refl, arith, sym, ap, ◌∙◌, ◌&&◌, List, [], ◌∷◌, inl, inr}
+use Rattle.std.proofs.Common.{◌≡◌, ◌==◌, ℕ, suc, ◌+◌, ◌-◌, ◌*◌, ◌^◌, ◌<◌, Some, ℤ, pos, negsuc, refl, arith, sym, ap, ◌∙◌, List, [], ◌∷◌, inl, inr}
 use Rattle.std.specs.List.{list_all}
 use Rattle.std.proofs.lemmas.Bool.{eqb-true, cases_lt}
 use Rattle.std.proofs.lemmas.Int.{ints}
@@ -20,7 +20,7 @@ use Rattle.rv_isa.specs.Table.{Operation, Fixed, row, IsIn, instruction_of, with
 use Rattle.rv_isa.specs.Listing.{operation}
 use Rattle.rv_isa.proofs.FieldRanges.{signed_low, signed_high}
 use Rattle.rv_isa.proofs.Rows.{Has, both}
-use Rattle.rv_isa.proofs.Reading.{Found, found}
+use Rattle.rv_isa.proofs.Reading.{found}
 
 -- both words have the same value in each of the fields
 abbrev Agree : ℕ → ℕ → List Fixed → Type 0
@@ -37,14 +37,14 @@ agree (f ∷ fs) w v h k =
 signed_injective : (sign m n : ℕ) → m < 2 * sign → n < 2 * sign → signed sign m ≡ signed sign n → m ≡ n
 signed_injective sign m n h k e =
     elim (cases_lt m sign) [
-        inl low ↦ elim (cases_lt n sign) [
-            inl low' ↦ let f : pos m ≡ pos n = sym (signed_low sign m low) ∙ (e ∙ signed_low sign n low') in omega (arith, ints)
-            | inr high' ↦ let f : pos m ≡ negsuc (2 * sign - suc n) = sym (signed_low sign m low) ∙ (e ∙ signed_high sign n high' k) in absurd (cc)
-        ]
-        | inr high ↦ elim (cases_lt n sign) [
-            inl low' ↦ let f : negsuc (2 * sign - suc m) ≡ pos n = sym (signed_high sign m high h) ∙ (e ∙ signed_low sign n low') in absurd (cc)
-            | inr high' ↦ let f : negsuc (2 * sign - suc m) ≡ negsuc (2 * sign - suc n) = sym (signed_high sign m high h) ∙ (e ∙ signed_high sign n high' k) in omega (arith, ints)
-        ]
+      | inl low ↦ elim (cases_lt n sign) [
+        | inl low' ↦ let f : pos m ≡ pos n = sym (signed_low sign m low) ∙ (e ∙ signed_low sign n low') in omega (arith, ints)
+        | inr high' ↦ let f : pos m ≡ negsuc (2 * sign - suc n) = sym (signed_low sign m low) ∙ (e ∙ signed_high sign n high' k) in absurd (cc)
+      ]
+      | inr high ↦ elim (cases_lt n sign) [
+        | inl low' ↦ let f : negsuc (2 * sign - suc m) ≡ pos n = sym (signed_high sign m high h) ∙ (e ∙ signed_low sign n low') in absurd (cc)
+        | inr high' ↦ let f : negsuc (2 * sign - suc m) ≡ negsuc (2 * sign - suc n) = sym (signed_high sign m high h) ∙ (e ∙ signed_high sign n high' k) in omega (arith, ints)
+      ]
     ]
 
 -- a word is the sum of its six fields

@@ -1,5 +1,5 @@
 -- A word whose fields are those of an instruction is that instruction's.
-use Rattle.std.proofs.Common.{◌≡◌, ◌==◌, ℕ, ◌+◌, ◌*◌, ◌/◌, ◌%◌, ◌^◌, ◌&&◌, Some, true, ℤ, eq-eqb, refl, arith, sym, subst, [], ◌∷◌, List}
+use Rattle.std.proofs.Common.{◌≡◌, ℕ, ◌+◌, ◌%◌, Some, eq-eqb, refl, arith, sym, subst, [], ◌∷◌, List}
 use Rattle.rv_isa.specs.Fields.{bits}
 use Rattle.rv_isa.specs.Table.{Operation, Fixed, row, opcode, funct3, funct7, operation_of, instruction_of, fence}
 use Rattle.rv_isa.specs.declared.instruction.Instr.TheVariants.{Fence}

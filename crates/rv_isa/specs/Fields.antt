@@ -1,6 +1,6 @@
 -- The fields of a 32-bit instruction word and its forms of immediate.
 -- Source: the RISC-V unprivileged specification, RV32I, "Base Instruction Formats" and "Immediate Encoding Variants".
-use Rattle.std.specs.Prelude.{ℕ, ◌+◌, ◌-◌, ◌*◌, ◌/◌, ◌%◌, ◌^◌, nat_lt, if◌then◌else◌, ℤ, pos, ◌-ℤ◌}
+use Rattle.std.specs.Prelude.{ℕ, ◌+◌, ◌*◌, ◌/◌, ◌%◌, ◌^◌, nat_lt, if◌then◌else◌, ℤ, pos, ◌-ℤ◌}
 
 -- so many bits of a word, from the one at `low` upward, as a number
 abbrev pub bits : ℕ → ℕ → ℕ → ℕ

@@ -1,6 +1,6 @@
 -- The instruction set as one table: a row for each mnemonic.
 -- Source: the RISC-V unprivileged specification, "RV32/64G Instruction Set Listings", the tables of RV32I and RV32M.
-use Rattle.std.specs.Prelude.{◌≡◌, ◌==◌, ℕ, ◌+◌, ◌*◌, ◌^◌, List, [], ◌∷◌, Bool, IsTrue, Option, unsigned_abs, codes, find}
+use Rattle.std.specs.Prelude.{◌==◌, ℕ, ◌+◌, ◌*◌, ◌^◌, List, [], ◌∷◌, Bool, IsTrue, Option, codes, find}
 use Rattle.std.specs.List.{list_all}
 use Rattle.std.specs.Option.{option_map}
 use Rattle.pl_base.specs.declared.widths.LoadWidth.{LoadWidth}

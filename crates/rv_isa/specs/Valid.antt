@@ -1,9 +1,8 @@
 -- Which instructions have a word: every field is in its range.
-use Rattle.std.specs.Prelude.{◌≡◌, ℕ, ◌/◌, ◌%◌, ◌^◌, ◌<◌, ℤ, pos, neg_ℤ, ◌≤ℤ◌, ◌<ℤ◌, unsigned_abs}
-use Rattle.rv_isa.specs.declared.instruction.ImmOp.{ImmOp}
+use Rattle.std.specs.Prelude.{◌≡◌, ℕ, ◌%◌, ◌^◌, ◌<◌, ℤ, pos, neg_ℤ, ◌≤ℤ◌, ◌<ℤ◌, unsigned_abs}
 use Rattle.rv_isa.specs.declared.instruction.Instr.{Instr}
 use Rattle.rv_isa.specs.declared.instruction.Instr.TheVariants.{Lui, Auipc, Jal, Jalr, Branch, Load, Store, OpImm, Op, Fence, Ecall}
-use Rattle.rv_isa.specs.Fields.{Form, Shift, I, R, S, B, U, J, Free, Whole, bits}
+use Rattle.rv_isa.specs.Fields.{Form, Shift, bits}
 use Rattle.rv_isa.specs.Table.{row, op_imm}
 
 -- from -2^k to 2^k - 1

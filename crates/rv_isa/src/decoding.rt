@@ -22,9 +22,18 @@ fn by_opcode(word: u32) -> Option<Instr>
     ensures { result ≡ instruction_of word }
 {
     match word % 128 {
-        0b0110111 => Some(Instr::Lui { rd: rd(word), imm: word / (1 << 12) }),
-        0b0010111 => Some(Instr::Auipc { rd: rd(word), imm: word / (1 << 12) }),
-        0b1101111 => Some(Instr::Jal { rd: rd(word), off: immediate_j(word) }),
+        0b0110111 => Some(Instr::Lui {
+            rd: rd(word),
+            imm: word / (1 << 12),
+        }),
+        0b0010111 => Some(Instr::Auipc {
+            rd: rd(word),
+            imm: word / (1 << 12),
+        }),
+        0b1101111 => Some(Instr::Jal {
+            rd: rd(word),
+            off: immediate_j(word),
+        }),
         0b1100111 => jalr(word),
         0b1100011 => branch(word),
         0b0000011 => load(word),
@@ -95,14 +104,20 @@ fn immediate_b(word: u32) -> i32
     ensures { result ≡ immediate B word }
 {
     let high = word / (1 << 31) * (1 << 12) + word / (1 << 7) % 2 * (1 << 11);
-    signed(high + word / (1 << 25) % 64 * 32 + word / (1 << 8) % 16 * 2, 1 << 12)
+    signed(
+        high + word / (1 << 25) % 64 * 32 + word / (1 << 8) % 16 * 2,
+        1 << 12,
+    )
 }
 
 fn immediate_j(word: u32) -> i32
     ensures { result ≡ immediate J word }
 {
     let high = word / (1 << 31) * (1 << 20) + word / (1 << 12) % 256 * (1 << 12);
-    signed(high + word / (1 << 20) % 2 * (1 << 11) + word / (1 << 21) % 1024 * 2, 1 << 20)
+    signed(
+        high + word / (1 << 20) % 2 * (1 << 11) + word / (1 << 21) % 1024 * 2,
+        1 << 20,
+    )
 }
 
 fn jalr(word: u32) -> Option<Instr>
@@ -110,7 +125,11 @@ fn jalr(word: u32) -> Option<Instr>
     ensures { result ≡ instruction_of word }
 {
     match funct3(word) {
-        0b000 => Some(Instr::Jalr { rd: rd(word), rs1: rs1(word), imm: immediate_i(word) }),
+        0b000 => Some(Instr::Jalr {
+            rd: rd(word),
+            rs1: rs1(word),
+            imm: immediate_i(word),
+        }),
         _ => None,
     }
 }
@@ -120,7 +139,12 @@ fn branch(word: u32) -> Option<Instr>
     ensures { result ≡ instruction_of word }
 {
     let op = branch_op(word)?;
-    Some(Instr::Branch { op, rs1: rs1(word), rs2: rs2(word), off: immediate_b(word) })
+    Some(Instr::Branch {
+        op,
+        rs1: rs1(word),
+        rs2: rs2(word),
+        off: immediate_b(word),
+    })
 }
 
 fn branch_op(word: u32) -> Option<BranchOp>
@@ -143,7 +167,12 @@ fn load(word: u32) -> Option<Instr>
     ensures { result ≡ instruction_of word }
 {
     let width = load_width(word)?;
-    Some(Instr::Load { width, rd: rd(word), rs1: rs1(word), imm: immediate_i(word) })
+    Some(Instr::Load {
+        width,
+        rd: rd(word),
+        rs1: rs1(word),
+        imm: immediate_i(word),
+    })
 }
 
 fn load_width(word: u32) -> Option<LoadWidth>
@@ -165,7 +194,12 @@ fn store(word: u32) -> Option<Instr>
     ensures { result ≡ instruction_of word }
 {
     let width = store_width(word)?;
-    Some(Instr::Store { width, rs2: rs2(word), rs1: rs1(word), imm: immediate_s(word) })
+    Some(Instr::Store {
+        width,
+        rs2: rs2(word),
+        rs1: rs1(word),
+        imm: immediate_s(word),
+    })
 }
 
 fn store_width(word: u32) -> Option<StoreWidth>
@@ -185,7 +219,12 @@ fn op_imm(word: u32) -> Option<Instr>
     ensures { result ≡ instruction_of word }
 {
     let op = imm_op(word)?;
-    Some(Instr::OpImm { op, rd: rd(word), rs1: rs1(word), imm: operand(op, word) })
+    Some(Instr::OpImm {
+        op,
+        rd: rd(word),
+        rs1: rs1(word),
+        imm: operand(op, word),
+    })
 }
 
 fn imm_op(word: u32) -> Option<ImmOp>
@@ -225,7 +264,12 @@ fn op(word: u32) -> Option<Instr>
     ensures { result ≡ instruction_of word }
 {
     let op = reg_op(word)?;
-    Some(Instr::Op { op, rd: rd(word), rs1: rs1(word), rs2: rs2(word) })
+    Some(Instr::Op {
+        op,
+        rd: rd(word),
+        rs1: rs1(word),
+        rs2: rs2(word),
+    })
 }
 
 fn reg_op(word: u32) -> Option<RegOp>
@@ -283,7 +327,9 @@ fn fence(word: u32) -> Option<Instr>
     ensures { result ≡ instruction_of word }
 {
     match funct3(word) {
-        0b000 => Some(Instr::Fence { bits: word - 0b0001111 }),
+        0b000 => Some(Instr::Fence {
+            bits: word - 0b0001111,
+        }),
         _ => None,
     }
 }
@@ -292,5 +338,9 @@ fn ecall(word: u32) -> Option<Instr>
     requires { word % 128 ≡ 0b1110011 }
     ensures { result ≡ instruction_of word }
 {
-    if word == 0b1110011 { Some(Instr::Ecall) } else { None }
+    if word == 0b1110011 {
+        Some(Instr::Ecall)
+    } else {
+        None
+    }
 }

@@ -25,8 +25,18 @@ fn word_of(i: &Instr) -> u32
         Instr::Jal { rd, off } => jump(0b1101111, rd, off),
         Instr::Jalr { rd, rs1, imm } => with_immediate(0b1100111, rd, 0b000, rs1, imm),
         Instr::Branch { op, rs1, rs2, off } => branch(op, rs1, rs2, off),
-        Instr::Load { width, rd, rs1, imm } => load(width, rd, rs1, imm),
-        Instr::Store { width, rs2, rs1, imm } => store(width, rs2, rs1, imm),
+        Instr::Load {
+            width,
+            rd,
+            rs1,
+            imm,
+        } => load(width, rd, rs1, imm),
+        Instr::Store {
+            width,
+            rs2,
+            rs1,
+            imm,
+        } => store(width, rs2, rs1, imm),
         Instr::OpImm { op, rd, rs1, imm } => op_imm(op, rd, rs1, imm),
         Instr::Op { op, rd, rs1, rs2 } => operate(op, rd, rs1, rs2),
         Instr::Fence { bits } => bits + 0b0001111,
@@ -115,7 +125,14 @@ fn operate(op: RegOp, rd: u8, rs1: u8, rs2: u8) -> u32
     ensures { instruction_of result ≡ Some (Instr.Op op rd rs1 rs2) }
 {
     let (funct3, funct7) = selection(op);
-    pack(0b0110011, u32::from(rd), funct3, u32::from(rs1), u32::from(rs2), funct7)
+    pack(
+        0b0110011,
+        u32::from(rd),
+        funct3,
+        u32::from(rs1),
+        u32::from(rs2),
+        funct7,
+    )
 }
 
 fn selection(operation: RegOp) -> (u32, u32)
@@ -162,7 +179,11 @@ fn jump(opcode: u32, rd: u8, off: i32) -> u32
 {
     let low = low_bits(off, 1 << 20);
     let high = low / (1 << 20) * (1 << 19) + low / 2 % (1 << 10) * (1 << 9);
-    upper(opcode, rd, high + low / (1 << 11) % 2 * (1 << 8) + low / (1 << 12) % (1 << 8))
+    upper(
+        opcode,
+        rd,
+        high + low / (1 << 11) % 2 * (1 << 8) + low / (1 << 12) % (1 << 8),
+    )
 }
 
 fn branch_word(opcode: u32, funct3: u32, rs1: u8, rs2: u8, off: i32) -> u32
@@ -190,7 +211,14 @@ fn store_word(opcode: u32, funct3: u32, rs1: u8, rs2: u8, imm: i32) -> u32
     ensures imm { immediate S result ≡ imm }
 {
     let low = low_bits(imm, 1 << 11);
-    pack(opcode, low % 32, funct3, u32::from(rs1), u32::from(rs2), low / 32)
+    pack(
+        opcode,
+        low % 32,
+        funct3,
+        u32::from(rs1),
+        u32::from(rs2),
+        low / 32,
+    )
 }
 
 fn with_immediate(opcode: u32, rd: u8, funct3: u32, rs1: u8, imm: i32) -> u32
@@ -203,7 +231,14 @@ fn with_immediate(opcode: u32, rd: u8, funct3: u32, rs1: u8, imm: i32) -> u32
     ensures imm { immediate I result ≡ imm }
 {
     let low = low_bits(imm, 1 << 11);
-    pack(opcode, u32::from(rd), funct3, u32::from(rs1), low % 32, low / 32)
+    pack(
+        opcode,
+        u32::from(rd),
+        funct3,
+        u32::from(rs1),
+        low % 32,
+        low / 32,
+    )
 }
 
 fn shift(rd: u8, funct3: u32, rs1: u8, amount: i32, funct7: u32) -> u32
@@ -216,7 +251,14 @@ fn shift(rd: u8, funct3: u32, rs1: u8, amount: i32, funct7: u32) -> u32
     ensures amount { pos (rs2_of result) ≡ amount }
     ensures funct7 { bits 25 7 result ≡ funct7 }
 {
-    pack(0b0010011, u32::from(rd), funct3, u32::from(rs1), amount as u32, funct7)
+    pack(
+        0b0010011,
+        u32::from(rd),
+        funct3,
+        u32::from(rs1),
+        amount as u32,
+        funct7,
+    )
 }
 
 /// The word of six fields, which stand one above the other.

@@ -7,26 +7,66 @@ use pl_base::{LoadWidth, StoreWidth};
 #[derive(Clone, Copy, Debug, PartialEq, Eq)]
 pub enum Instr {
     /// Load upper immediate; `imm` is bits 31 to 12 of the value. RV32I, "Integer Computational Instructions".
-    Lui { rd: u8, imm: u32 },
+    Lui {
+        rd: u8,
+        imm: u32,
+    },
     /// Add upper immediate to pc; `imm` is bits 31 to 12 of what is added.
-    Auipc { rd: u8, imm: u32 },
+    Auipc {
+        rd: u8,
+        imm: u32,
+    },
     /// Jump and link; `off` is an even number of bytes. RV32I, "Control Transfer Instructions".
-    Jal { rd: u8, off: i32 },
+    Jal {
+        rd: u8,
+        off: i32,
+    },
     /// Jump to a register and link.
-    Jalr { rd: u8, rs1: u8, imm: i32 },
+    Jalr {
+        rd: u8,
+        rs1: u8,
+        imm: i32,
+    },
     /// A conditional branch; `off` is an even number of bytes.
-    Branch { op: BranchOp, rs1: u8, rs2: u8, off: i32 },
+    Branch {
+        op: BranchOp,
+        rs1: u8,
+        rs2: u8,
+        off: i32,
+    },
     /// A load from `rs1` plus `imm`. RV32I, "Load and Store Instructions".
-    Load { width: LoadWidth, rd: u8, rs1: u8, imm: i32 },
+    Load {
+        width: LoadWidth,
+        rd: u8,
+        rs1: u8,
+        imm: i32,
+    },
     /// A store of `rs2` to `rs1` plus `imm`.
-    Store { width: StoreWidth, rs2: u8, rs1: u8, imm: i32 },
+    Store {
+        width: StoreWidth,
+        rs2: u8,
+        rs1: u8,
+        imm: i32,
+    },
     /// An operation on a register and an immediate.
-    OpImm { op: ImmOp, rd: u8, rs1: u8, imm: i32 },
+    OpImm {
+        op: ImmOp,
+        rd: u8,
+        rs1: u8,
+        imm: i32,
+    },
     /// An operation on two registers.
-    Op { op: RegOp, rd: u8, rs1: u8, rs2: u8 },
+    Op {
+        op: RegOp,
+        rd: u8,
+        rs1: u8,
+        rs2: u8,
+    },
     /// A fence; `bits` are the word's bits other than the opcode's and those of funct3. RV32I,
     /// "Memory Ordering Instructions".
-    Fence { bits: u32 },
+    Fence {
+        bits: u32,
+    },
     /// A call of the kernel. RV32I, "Environment Call and Breakpoints".
     Ecall,
 }

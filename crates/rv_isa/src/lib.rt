@@ -10,8 +10,11 @@ mod encoding;
 mod instruction;
 mod listing;
 mod range;
+#[cfg(test)]
+mod tests;
 
 pub use decoding::decode;
 pub use encoding::encode;
 pub use instruction::{BranchOp, ImmOp, Instr, RegOp};
+pub use listing::render;
 pub use range::valid;

@@ -12,13 +12,31 @@ pub fn valid(i: &Instr) -> bool
         Instr::Lui { rd, imm } | Instr::Auipc { rd, imm } => rd < 32 && imm < 1 << 20,
         Instr::Jal { rd, off } => rd < 32 && is_offset(off, 1 << 20),
         Instr::Jalr { rd, rs1, imm } => rd < 32 && rs1 < 32 && is_within(imm, 1 << 11),
-        Instr::Branch { op: _, rs1, rs2, off } => rs1 < 32 && rs2 < 32 && is_offset(off, 1 << 12),
-        Instr::Load { width: _, rd, rs1, imm } => rd < 32 && rs1 < 32 && is_within(imm, 1 << 11),
-        Instr::Store { width: _, rs2, rs1, imm } => {
-            rs2 < 32 && rs1 < 32 && is_within(imm, 1 << 11)
-        }
+        Instr::Branch {
+            op: _,
+            rs1,
+            rs2,
+            off,
+        } => rs1 < 32 && rs2 < 32 && is_offset(off, 1 << 12),
+        Instr::Load {
+            width: _,
+            rd,
+            rs1,
+            imm,
+        } => rd < 32 && rs1 < 32 && is_within(imm, 1 << 11),
+        Instr::Store {
+            width: _,
+            rs2,
+            rs1,
+            imm,
+        } => { rs2 < 32 && rs1 < 32 && is_within(imm, 1 << 11) }
         Instr::OpImm { op, rd, rs1, imm } => rd < 32 && rs1 < 32 && is_operand(op, imm),
-        Instr::Op { op: _, rd, rs1, rs2 } => rd < 32 && rs1 < 32 && rs2 < 32,
+        Instr::Op {
+            op: _,
+            rd,
+            rs1,
+            rs2,
+        } => rd < 32 && rs1 < 32 && rs2 < 32,
         Instr::Fence { bits } => bits % 128 == 0 && bits / 4096 % 8 == 0,
         Instr::Ecall => true,
     }

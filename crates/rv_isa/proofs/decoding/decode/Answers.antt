@@ -1,6 +1,4 @@
-use Rattle.std.proofs.Common.{◌≡◌, Option, IsNone, ◌↔◌, ◌∙◌, subst, refl}
-use Rattle.std.specs.Option.{IfSome}
-use Rattle.rv_isa.specs.Table.{Operation, IsIn}
+use Rattle.std.proofs.Common.{◌∙◌}
 use Rattle.rv_isa.proofs.Reading.{of_row, of_no_row, valid_where_read}
 use Rattle.rv_isa.proofs.decoding.decode.Goals as goal
 

@@ -1,4 +1,4 @@
-use Rattle.std.proofs.Common.{◌≡◌, ℕ, sym, refl, arith}
+use Rattle.std.proofs.Common.{sym, refl, arith}
 use Rattle.rv_isa.specs.Fields.{bits}
 use Rattle.rv_isa.specs.Table.{ecall}
 use Rattle.rv_isa.proofs.Lookup.{at_upper, no_ecall, made, none}

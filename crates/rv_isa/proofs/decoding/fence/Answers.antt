@@ -1,4 +1,4 @@
-use Rattle.std.proofs.Common.{◌≡◌, ℕ, ◌-◌, sym, refl, ◌∙◌, arith}
+use Rattle.std.proofs.Common.{◌-◌, sym, arith}
 use Rattle.rv_isa.proofs.Lookup.{at_funct3, no_fence, made_fence, none}
 use Rattle.rv_isa.proofs.decoding.fence.Goals as goal
 

@@ -1,4 +1,4 @@
-use Rattle.std.proofs.Common.{◌≡◌, ℕ, sym, refl, arith}
+use Rattle.std.proofs.Common.{sym, arith}
 use Rattle.rv_isa.proofs.Lookup.{at_funct3, at_funct7, no_shift_left, no_shift_right}
 use Rattle.rv_isa.proofs.decoding.imm_op.Goals as goal
 

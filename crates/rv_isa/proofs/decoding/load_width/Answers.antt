@@ -1,4 +1,4 @@
-use Rattle.std.proofs.Common.{◌≡◌, ℕ, sym, refl, arith}
+use Rattle.std.proofs.Common.{sym, arith}
 use Rattle.rv_isa.proofs.Lookup.{at_funct3, no_load}
 use Rattle.rv_isa.proofs.decoding.load_width.Goals as goal
 

@@ -1,4 +1,4 @@
-use Rattle.std.proofs.Common.{◌≡◌, ℕ, sym, ap, ◌∙◌, rules, arith}
+use Rattle.std.proofs.Common.{arith}
 use Rattle.rv_isa.proofs.Lookup.{at_funct7}
 use Rattle.rv_isa.proofs.decoding.multiply_op.Goals as goal
 

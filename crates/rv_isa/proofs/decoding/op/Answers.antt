@@ -1,4 +1,4 @@
-use Rattle.std.proofs.Common.{◌≡◌, ℕ, sym, refl, ◌∙◌, arith, rules, w32}
+use Rattle.std.proofs.Common.{sym, ◌∙◌}
 use Rattle.rv_isa.proofs.Lookup.{made_op, none}
 use Rattle.rv_isa.proofs.decoding.op.Goals as goal
 

@@ -1,4 +1,4 @@
-use Rattle.std.proofs.Common.{◌≡◌, ℕ, sym, refl, arith}
+use Rattle.std.proofs.Common.{sym, arith}
 use Rattle.rv_isa.proofs.Lookup.{at_funct7, no_second, no_reg_op}
 use Rattle.rv_isa.proofs.decoding.reg_op.Goals as goal
 

@@ -1,4 +1,4 @@
-use Rattle.std.proofs.Common.{◌≡◌, ℕ, sym, refl, arith}
+use Rattle.std.proofs.Common.{sym, arith}
 use Rattle.rv_isa.proofs.Lookup.{at_funct3, no_store}
 use Rattle.rv_isa.proofs.decoding.store_width.Goals as goal
 

@@ -1,4 +1,4 @@
-use Rattle.std.proofs.Common.{◌≡◌, ◌<◌, ◌^◌, arith, rules}
+use Rattle.std.proofs.Common.{arith}
 use Rattle.rv_isa.proofs.Unique.{only_word}
 use Rattle.rv_isa.proofs.encoding.encode.Goals as goal
 

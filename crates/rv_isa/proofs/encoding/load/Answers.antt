@@ -1,7 +1,6 @@
-use Rattle.std.proofs.Common.{◌≡◌, ℕ, ◌+◌, sym, refl, ◌∙◌, arith, rules, w32}
-use Rattle.std.specs.Int.RustNames.{FitsSigned}
+use Rattle.std.proofs.Common.{sym, ◌∙◌, w32}
 use Rattle.std.proofs.lemmas.Int.{to_z-of_z}
-use Rattle.rv_isa.specs.Table.{branch, load, store, op_imm, op, lui, auipc, jal, jalr, fence, ecall}
+use Rattle.rv_isa.specs.Table.{load}
 use Rattle.rv_isa.proofs.Lookup.{made_load}
 use Rattle.rv_isa.proofs.Writing.{in_two}
 use Rattle.rv_isa.proofs.encoding.load.Goals as goal

@@ -1,7 +1,6 @@
-use Rattle.std.proofs.Common.{◌≡◌, ℕ, ◌+◌, sym, refl, ◌∙◌, arith, rules, w32}
-use Rattle.std.specs.Int.RustNames.{FitsSigned}
+use Rattle.std.proofs.Common.{sym, refl, ◌∙◌, w32}
 use Rattle.std.proofs.lemmas.Int.{to_z-of_z}
-use Rattle.rv_isa.specs.Table.{branch, load, store, op_imm, op, lui, auipc, jal, jalr, fence, ecall}
+use Rattle.rv_isa.specs.Table.{op_imm}
 use Rattle.rv_isa.specs.declared.instruction.ImmOp.TheVariants.{Addi, Slti, Sltiu, Xori, Ori, Andi, Slli, Srli, Srai}
 use Rattle.rv_isa.proofs.Lookup.{made_op_imm}
 use Rattle.rv_isa.proofs.Writing.{in_two, in_three}

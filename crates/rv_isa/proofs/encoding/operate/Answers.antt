@@ -1,7 +1,5 @@
-use Rattle.std.proofs.Common.{◌≡◌, ℕ, ◌+◌, sym, refl, ◌∙◌, arith, rules, w32}
-use Rattle.std.specs.Int.RustNames.{FitsSigned}
-use Rattle.std.proofs.lemmas.Int.{to_z-of_z}
-use Rattle.rv_isa.specs.Table.{branch, load, store, op_imm, op, lui, auipc, jal, jalr, fence, ecall}
+use Rattle.std.proofs.Common.{sym, ◌∙◌}
+use Rattle.rv_isa.specs.Table.{op}
 use Rattle.rv_isa.proofs.Lookup.{made_op}
 use Rattle.rv_isa.proofs.Writing.{in_three}
 use Rattle.rv_isa.proofs.encoding.operate.Goals as goal

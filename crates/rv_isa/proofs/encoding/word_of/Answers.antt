@@ -1,7 +1,7 @@
-use Rattle.std.proofs.Common.{◌≡◌, ℕ, ◌+◌, sym, refl, ◌∙◌, arith, rules, w32}
+use Rattle.std.proofs.Common.{sym, refl, ◌∙◌, rules, w32}
 use Rattle.std.specs.Int.RustNames.{FitsSigned}
 use Rattle.std.proofs.lemmas.Int.{to_z-of_z}
-use Rattle.rv_isa.specs.Table.{branch, load, store, op_imm, op, lui, auipc, jal, jalr, fence, ecall}
+use Rattle.rv_isa.specs.Table.{jalr, ecall}
 use Rattle.rv_isa.proofs.Lookup.{at_opcode, made, made_lui, made_auipc, made_jal, made_jalr}
 use Rattle.rv_isa.proofs.Writing.{in_two, fence_again}
 use Rattle.rv_isa.proofs.encoding.word_of.Goals as goal

@@ -1,7 +1,8 @@
 ghost use Rattle.std.specs.Prelude.{◌≡◌, ◌<◌, ◌↔◌, IsNone};
 ghost use Rattle.rv_isa.specs.Table.{instruction_of};
 ghost use Rattle.rv_isa.specs.Valid.{IsValid};
-ghost use Rattle.rv_exec.specs.Meaning.{effect_of, effect_at, IsLoad, loaded, after, at_pc, next_pc};
+ghost use Rattle.rv_exec.specs.Hart.{x};
+ghost use Rattle.rv_exec.specs.Meaning.{moved, effect_of, effect_at, IsLoad, loaded, after, at_pc, next_pc};
 
 use crate::arithmetic::{extended, is_taken, on_registers, operate};
 use crate::effect::Effect;
@@ -41,31 +42,8 @@ fn effect(state: &HartState, instr: &Instr) -> Effect
                 state.at(next_pc)
             }
         }
-        Instr::Load {
-            width: _,
-            rd: _,
-            rs1,
-            imm,
-        } => {
-            let addr = state.reg(rs1).wrapping_add_signed(imm);
-            return Effect::Load {
-                instr: *instr,
-                addr,
-            };
-        }
-        Instr::Store {
-            width: _,
-            rs2,
-            rs1,
-            imm,
-        } => {
-            let addr = state.reg(rs1).wrapping_add_signed(imm);
-            return Effect::Store {
-                instr: *instr,
-                addr,
-                value: state.reg(rs2),
-            };
-        }
+        Instr::Load { rs1, imm, .. } => return load(state, instr, rs1, imm),
+        Instr::Store { rs2, rs1, imm, .. } => return store(state, instr, rs2, rs1, imm),
         Instr::OpImm { op, rd, rs1, imm } => {
             let value = operate(on_registers(op), state.reg(rs1), imm.cast_unsigned());
             state.after(rd, value, next_pc)
@@ -82,6 +60,27 @@ fn effect(state: &HartState, instr: &Instr) -> Effect
     }
 }
 
+fn load(state: &HartState, instr: &Instr, rs1: u8, imm: i32) -> Effect
+    requires { rs1 < 32 }
+    ensures { result ≡ Effect.Load instr.now (moved (x state.now rs1) imm) }
+{
+    Effect::Load {
+        instr: *instr,
+        addr: state.reg(rs1).wrapping_add_signed(imm),
+    }
+}
+
+fn store(state: &HartState, instr: &Instr, rs2: u8, rs1: u8, imm: i32) -> Effect
+    requires { (rs2 < 32) × (rs1 < 32) }
+    ensures { result ≡ Effect.Store instr.now (moved (x state.now rs1) imm) (x state.now rs2) }
+{
+    Effect::Store {
+        instr: *instr,
+        addr: state.reg(rs1).wrapping_add_signed(imm),
+        value: state.reg(rs2),
+    }
+}
+
 /// Ends a load whose bytes, read as one little-endian number, are `raw`: writes its register and
 /// goes on to the next instruction.
 pub fn finish_load(state: &HartState, instr: &Instr, raw: u32) -> HartState
@@ -90,12 +89,7 @@ pub fn finish_load(state: &HartState, instr: &Instr, raw: u32) -> HartState
     ensures { result ≡ loaded state.now instr.now raw }
 {
     match *instr {
-        Instr::Load {
-            width,
-            rd,
-            rs1: _,
-            imm: _,
-        } => { state.after(rd, extended(width, raw), state.next_pc()) }
+        Instr::Load { width, rd, .. } => { state.after(rd, extended(width, raw), state.next_pc()) }
         _ => unreachable!(),
     }
 }

@@ -1,0 +1,6 @@
+pub mod Causes
+pub mod Fronts
+pub mod FaultPlan
+pub mod MemSource
+pub mod MemSink
+pub mod Widths

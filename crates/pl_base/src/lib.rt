@@ -1,6 +1,27 @@
-//! What every layer stands on: the widths of loads and stores, and why a hart faults.
+//! What every layer stands on: where bytes come from and go to, the gate that workers pass, and
+//! the widths and faults of a hart.
+//!
+//! A source and a sink are traits with two meanings each: the bytes that are left or were written,
+//! where they tell them, and a count of faults that never falls. So a caller knows after each call
+//! which bytes moved, and that nothing failed without a fault that was counted.
+//! `MemSource` and `MemSink` work over bytes in memory and fail at the calls that they are told;
+//! `CleanSource` and `CleanSink` never fail.
 #![tactic(auto)]
 
+mod clean;
+mod fault_plan;
+mod loops;
+mod mem_sink;
+mod mem_source;
+mod outside;
+#[cfg(test)]
+mod tests;
+mod unread;
 mod widths;
 
+pub use clean::{CleanSink, CleanSource};
+pub use loops::{ReadEnd, read_all, write_all_counted};
+pub use mem_sink::MemSink;
+pub use mem_source::MemSource;
+pub use outside::{Failed, Gate, NoMemory, OpenGate, Sink, Source};
 pub use widths::{FaultCause, LoadWidth, StoreWidth};

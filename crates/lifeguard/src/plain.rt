@@ -1,0 +1,83 @@
+ghost use Rattle.std.specs.Prelude.{◌≡◌, ◌<◌, ◌≤◌, ◌+◌, ◌++◌, ◌∷◌, [], ◌^◌, List, All, IfOk, OnOk, OnErr};
+ghost use Rattle.pl_event.specs.Valid.{IsValidEvent};
+ghost use Rattle.pl_event.specs.declared.event.Event.{Event};
+ghost use Rattle.pl_event.specs.declared.log.PageRun.{PageRun};
+ghost use Rattle.lifeguard.specs.Plain.{plain_result};
+ghost use Rattle.lifeguard.specs.Stands.{Stands, IsUnchanged, state_of, place_of};
+
+use crate::guard::Lifeguard;
+use crate::report::Report;
+use crate::shadow::Shadow;
+use pl_base::NoMemory;
+use pl_event::{Event, PageRun};
+use std::alloc::Global;
+
+/// The plain rules of a lifeguard, applied event by event.
+#[derive(Drop)]
+pub struct PlainMonitor<L: Lifeguard> {
+    pub guard: L,
+    pub harts: u8,
+    pub shadow: Shadow,
+}
+
+impl<L: Lifeguard> PlainMonitor<L> {
+    /// The state before the first event of `harts` harts, 1 to 8, with these pages mapped.
+    pub fn new(
+        alloc: Global,
+        l: L,
+        harts: u8,
+        pages: &[PageRun],
+    ) -> Result<PlainMonitor<L>, NoMemory>
+        requires few { harts ≤ 8 }
+        requires inside { All (λ run. run.first + run.count ≤ 4096) pages.now }
+        ensures stands { IfOk result (λ monitor. Stands (L.rules l) pages.now [] monitor.shadow) }
+        ensures guard { IfOk result (λ monitor. monitor.guard ≡ l) }
+        ensures harts { IfOk result (λ monitor. monitor.harts ≡ harts) }
+    {
+        let _ = alloc;
+        let _ = l;
+        let _ = harts;
+        let _ = pages;
+        Err(NoMemory)
+    }
+
+    /// Applies one event that is valid for the run's number of harts. At most 2,000,000 events are applied. Without
+    /// memory nothing changes.
+    pub fn apply(&mut self, event: &Event) -> Result<(), NoMemory>
+        requires few { self.old.harts ≤ 8 }
+        requires valid { IsValidEvent event.now self.old.harts }
+        requires room { place_of self.old.shadow < 2000000 }
+        ensures stands { OnOk result ((pages : List PageRun) (events : List Event) → Stands (L.rules self.old.guard) pages events self.old.shadow
+            → Stands (L.rules self.old.guard) pages (events ++ event.now ∷ []) self.new.shadow) }
+        ensures err { OnErr result (IsUnchanged self.old.shadow self.new.shadow) }
+        ensures guard { self.new.guard ≡ self.old.guard }
+        ensures harts { self.new.harts ≡ self.old.harts }
+    {
+        let _ = event;
+        Err(NoMemory)
+    }
+
+    /// The reports so far, in order.
+    pub fn reports(&self) -> &[Report]
+        ensures { result.now ≡ (state_of self.now.shadow).reports }
+    {
+        self.shadow.reports()
+    }
+
+    /// The mask of a register, below 34, of a hart of the run.
+    pub fn mask(&self, hart: u8, reg: u8) -> u8
+        requires few { self.now.harts ≤ 8 }
+        requires hart { hart < self.now.harts }
+        requires register { reg < 34 }
+        ensures { result ≡ (state_of self.now.shadow).masks hart reg }
+    {
+        self.shadow.mask(hart, reg)
+    }
+
+    /// The nibble of a byte; none exactly for a byte of no mapped page.
+    pub fn byte(&self, addr: u32) -> Option<u8>
+        ensures { result ≡ (state_of self.now.shadow).bytes addr }
+    {
+        self.shadow.byte(addr)
+    }
+}

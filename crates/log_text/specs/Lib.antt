@@ -1,0 +1,4 @@
+pub mod Begins
+pub mod Form
+pub mod Spelling
+pub mod WellFormed

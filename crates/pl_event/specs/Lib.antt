@@ -1,0 +1,3 @@
+pub mod Alerts
+pub mod Numbers
+pub mod Valid

@@ -1,0 +1,45 @@
+-- Which events a run can have.
+use Rattle.std.specs.Prelude.{◌≡◌, ℕ, ◌+◌, ◌%◌, ◌^◌, ◌<◌, ◌≤◌}
+use Rattle.pl_base.specs.Widths.{load_bytes, store_bytes}
+use Rattle.pl_event.specs.declared.event.Kind.{Kind}
+use Rattle.pl_event.specs.declared.event.Kind.TheVariants.{Ld, St, Op, Mv, Im, Br, Jr, Al, Fr, Bf, Mp, Um, Rd, Wr, Ex, Ft}
+use Rattle.pl_event.specs.declared.event.Event.{Event}
+
+-- one of 32 registers, or one of the two hidden ones
+abbrev pub IsRegister : ℕ → Type 0
+IsRegister register = register < 34
+
+-- an address of memory that is a multiple of the width
+abbrev pub IsAligned : ℕ → ℕ → Type 0
+IsAligned addr width = (addr < 2 ^ 24) × (addr % width ≡ 0)
+
+-- 1 to 65,536 bytes of memory
+abbrev pub IsByteRange : ℕ → ℕ → Type 0
+IsByteRange addr len = (addr < 2 ^ 24) × (1 ≤ len) × (len ≤ 65536) × (addr + len ≤ 2 ^ 24)
+
+-- 1 to 512 pages of memory
+abbrev pub IsPageRange : ℕ → ℕ → Type 0
+IsPageRange page count = (page ≤ 4095) × (1 ≤ count) × (count ≤ 512) × (page + count ≤ 4096)
+
+-- each field is in its range
+abbrev pub HasValidFields : Kind → Type 0
+HasValidFields (Ld width rd rb addr) = IsRegister rd × IsRegister rb × IsAligned addr (load_bytes width)
+HasValidFields (St width rv rb addr) = IsRegister rv × IsRegister rb × IsAligned addr (store_bytes width)
+HasValidFields (Op rd r1 r2) = IsRegister rd × IsRegister r1 × IsRegister r2
+HasValidFields (Mv rd rs) = IsRegister rd × IsRegister rs
+HasValidFields (Im rd) = IsRegister rd
+HasValidFields (Br r1 r2) = IsRegister r1 × IsRegister r2
+HasValidFields (Jr rd rs) = IsRegister rd × IsRegister rs
+HasValidFields (Al addr len) = IsByteRange addr len
+HasValidFields (Fr addr len) = IsByteRange addr len
+HasValidFields (Bf addr) = Unit {0}
+HasValidFields (Mp page count) = IsPageRange page count
+HasValidFields (Um page count) = IsPageRange page count
+HasValidFields (Rd addr len) = IsByteRange addr len
+HasValidFields (Wr addr len) = IsByteRange addr len
+HasValidFields Ex = Unit {0}
+HasValidFields (Ft cause addr) = Unit {0}
+
+-- an event of a run of so many harts
+abbrev pub IsValidEvent : Event → ℕ → Type 0
+IsValidEvent event harts = (event.hart < harts) × HasValidFields event.kind

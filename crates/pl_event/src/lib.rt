@@ -1,0 +1,15 @@
+//! What a guest did, as events in executed order: the records of a log and the numbers that name them.
+//!
+//! An event is a small value: its hart and its kind with the registers and addresses that it names. A record is an
+//! event or a notice, which announces an alert event of another hart. A line of a log is a record with its arcs, each
+//! the number of an earlier record of another hart that came first. A log is its lines in executed order, so a
+//! record's number, an event's number and its place are counts over the lines before it.
+#![tactic(auto)]
+
+mod event;
+mod log;
+mod streams;
+
+pub use event::{Event, Kind, is_alert, valid_event};
+pub use log::{Arcs, Line, Lines, Log, PageKind, PageRun, PageRuns, Point, Record};
+pub use streams::stream;

@@ -1,5 +1,5 @@
 -- What `is_among` says, and page arithmetic.
-use Rattle.std.proofs.Common.{◌≡◌, ℕ, ◌+◌, ◌-◌, ◌*◌, ◌/◌, ◌%◌, ◌<◌, ◌≤◌, ◌⊎◌, inl, inr, Bool, true, false, refl, arith, nat_le, nat_lt}
+use Rattle.std.proofs.Common.{◌≡◌, ℕ, ◌+◌, ◌<◌, ◌≤◌, ◌⊎◌, inl, inr, true, false}
 use Rattle.std.proofs.lemmas.Bool.{le-leb, lt-leb, lt-ltb, le-ltb, cases_lt, and_left, and_right, and_from}
 use Rattle.guest_mem.specs.Bytes.{is_among}
 
@@ -15,5 +15,7 @@ not_among_past first count k past = and_right _ _ (le-ltb k (first + count) past
 -- where a place lies
 pub place : (first count k : ℕ) → ((first ≤ k) × (k < first + count)) ⊎ ((k < first) ⊎ (first + count ≤ k))
 place first count k =
-    elim (cases_lt k first) [ inl before ↦ inr (inl before)
-      | inr from ↦ elim (cases_lt k (first + count)) [ inl within ↦ inl (from, within) | inr past ↦ inr (inr past) ] ]
+    elim (cases_lt k first) [
+      | inl before ↦ inr (inl before)
+      | inr from ↦ elim (cases_lt k (first + count)) [ inl within ↦ inl (from, within) | inr past ↦ inr (inr past) ]
+    ]

@@ -1,4 +1,4 @@
-use Rattle.std.specs.Prelude.{◌≡◌, ℕ, ◌+◌, ◌/◌, ◌<◌, ◌≤◌, Bool, true, false, Option, List, ⊤}
+use Rattle.std.specs.Prelude.{◌≡◌, ℕ, ◌+◌, ◌/◌, ◌<◌, ◌≤◌, Bool, true, false, Option, List}
 use Rattle.guest_mem.specs.declared.fault.MapFault.{MapFault}
 use Rattle.guest_mem.specs.declared.fault.MapFault.TheVariants.{Range, Mapped, TooMany, NoMemory}
 use Rattle.guest_mem.specs.declared.fault.MemFault.{MemFault}

@@ -7,13 +7,14 @@ ghost use Rattle.guest_mem.specs.Memory.{bytes, mapped, texts};
 
 use crate::fault::MemFault;
 use crate::page::{PAGE_BYTES, Page};
-use std::alloc::{AllocError, Global};
+use pl_base::NoMemory;
+use std::alloc::Global;
 
 /// How many pages there are.
 pub const PAGES: usize = 4096;
 
 /// So many pages of zeros.
-fn zero_pages(alloc: Global, count: usize, text: bool) -> Result<Vec<Page>, AllocError>
+fn zero_pages(alloc: Global, count: usize, text: bool) -> Result<Vec<Page>, NoMemory>
     ensures count { IfOk result (λ pages. vec_len pages ≡ count) }
     ensures zeros { IfOk result (λ pages. All (IsZeroPage text) pages.items) }
 {
@@ -25,7 +26,13 @@ fn zero_pages(alloc: Global, count: usize, text: bool) -> Result<Vec<Page>, Allo
 }
 
 /// Puts `count` pages of zeros into the directory, from `first` on.
-pub fn install(alloc: Global, pages: &mut [Option<Page>], first: usize, count: usize, text: bool) -> Result<(), AllocError>
+pub fn install(
+    alloc: Global,
+    pages: &mut [Option<Page>],
+    first: usize,
+    count: usize,
+    text: bool,
+) -> Result<(), NoMemory>
     requires { first + count ≤ length pages.old }
     ensures bytes { OnOk result (bytes pages.new ≡ repaged (bytes pages.old) first count (Some 0)) }
     ensures mapped { OnOk result (mapped pages.new ≡ marked (mapped pages.old) first count true) }
@@ -86,6 +93,7 @@ pub fn store(pages: &mut [Option<Page>], at: u32, width: u8, value: u32) -> Resu
     requires width { IsWidth width }
     requires within { at % 4096 + width ≤ 4096 }
     ensures can { OnOk result (IsWritable pages.old at width) }
+    ensures below { OnOk result (at / 4096 < length pages.old) }
     ensures bytes { OnOk result (bytes pages.new ≡ written (bytes pages.old) at (take width (to_le_bytes w32 value))) }
     ensures mapped { mapped pages.new ≡ mapped pages.old }
     ensures texts { texts pages.new ≡ texts pages.old }

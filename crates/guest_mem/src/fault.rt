@@ -1,7 +1,7 @@
 ghost use Rattle.std.specs.Prelude.{◌≡◌};
-ghost use Rattle.guest_mem.specs.declared.fault.MapFault.TheVariants.{NoMemory};
+ghost use Rattle.guest_mem.specs.declared.fault.MapFault.TheVariants.{NoMemory as no_memory};
 
-use std::alloc::AllocError;
+use pl_base::NoMemory;
 
 /// Why pages were not mapped. Where several causes hold, the first of this list is named.
 #[derive(Clone, Copy, Debug, PartialEq, Eq)]
@@ -16,10 +16,10 @@ pub enum MapFault {
     NoMemory,
 }
 
-impl From<AllocError> for MapFault {
-    ghost from_gives = { λ _ fault. fault ≡ NoMemory };
+impl From<NoMemory> for MapFault {
+    ghost from_gives = { λ _ fault. fault ≡ no_memory };
 
-    fn from(_refused: AllocError) -> MapFault {
+    fn from(_refused: NoMemory) -> MapFault {
         MapFault::NoMemory
     }
 }

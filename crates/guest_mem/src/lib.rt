@@ -10,6 +10,8 @@ mod directory;
 mod fault;
 mod memory;
 mod page;
+#[cfg(test)]
+mod tests;
 
 pub use fault::{MapFault, MemFault, NotMapped};
 pub use memory::PagedMem;

@@ -1,4 +1,4 @@
-ghost use Rattle.std.specs.Prelude.{◌≡◌, ℕ, ◌+◌, ◌*◌, ◌/◌, ◌%◌, ◌^◌, ◌≤◌, ◌<◌, Bool, true, false, Some, None, length, slice_index, take, IfOk, IfErr, OnOk, OnErr, MatchOption, MatchBool, IsTrue, IsSome, IsNone};
+ghost use Rattle.std.specs.Prelude.{◌≡◌, ℕ, ◌+◌, ◌*◌, ◌/◌, ◌%◌, ◌^◌, ◌≤◌, ◌<◌, Bool, true, false, Some, None, length, slice_index, take, IfOk, IfErr, OnOk, OnErr, IfNone, MatchOption, MatchBool, IsTrue, IsSome, IsNone};
 ghost use Rattle.std.specs.Option.{option_copied};
 ghost use Rattle.std.specs.Int.{to_le_bytes, w32};
 ghost use Rattle.guest_mem.specs.Bytes.{IsWidth, number_at, written, repaged, marked, AllMapped, IsFirstUnmapped};
@@ -7,8 +7,9 @@ ghost use Rattle.guest_mem.specs.Faults.{InRange, EachPage, SomePage, CanMap, Is
 
 use crate::directory::{PAGES, clear, install, put_all, store};
 use crate::fault::{MapFault, MemFault, NotMapped};
-use crate::page::{PAGE_BYTES, Page};
-use std::alloc::{AllocError, Global};
+use crate::page::{PAGE_BYTES, Page, number};
+use pl_base::NoMemory;
+use std::alloc::Global;
 use std::marker::Model;
 
 /// How many pages may be mapped at once.
@@ -37,8 +38,14 @@ impl Model for PagedMem {
 
 impl PagedMem {
     /// A memory with no page mapped.
-    pub fn new(alloc: Global) -> Result<PagedMem, AllocError>
-        ensures { IfOk result (λ m. (page : ℕ) → mapped m page ≡ false) }
+    ///
+    /// # Errors
+    ///
+    /// `NoMemory` where none was left for the directory.
+    pub fn new(alloc: Global) -> Result<PagedMem, NoMemory>
+        ensures bytes { IfOk result (λ m. bytes m ≡ λ _. None) }
+        ensures mapped { IfOk result (λ m. mapped m ≡ λ _. false) }
+        ensures texts { IfOk result (λ m. texts m ≡ λ _. false) }
     {
         let mut pages = Vec::with_capacity(alloc, PAGES)?;
         for _ in 0..PAGES {
@@ -52,6 +59,13 @@ impl PagedMem {
     }
 
     /// Maps `count` pages from `page` on, at least one, which hold zeros then; `text` says that stores to them fault.
+    ///
+    /// # Errors
+    ///
+    /// - `Range` exactly where a page is past 4,095.
+    /// - `Mapped` exactly where none is, and one of the pages is mapped.
+    /// - `TooMany` exactly where neither holds, and more than 512 pages would be mapped.
+    /// - `NoMemory` where none of these holds and no memory was left. The memory is as before after each of them.
     pub fn map(&mut self, page: u16, count: u16, text: bool) -> Result<(), MapFault>
         requires { 1 ≤ count }
         ensures can { OnOk result (CanMap self.old page count) }
@@ -79,8 +93,13 @@ impl PagedMem {
     }
 
     /// Unmaps `count` pages from `page` on and gives their memory back.
+    ///
+    /// # Errors
+    ///
+    /// `NotMapped` exactly where one of the pages is not mapped or is past 4,095. The memory is as before then.
     pub fn unmap(&mut self, page: u16, count: u16) -> Result<(), NotMapped>
         ensures can { OnOk result (EachPage (mapped self.old) page count true) }
+        ensures in_range { OnOk result (1 ≤ count → InRange page count) }
         ensures bytes { OnOk result (bytes self.new ≡ repaged (bytes self.old) page count None) }
         ensures mapped { OnOk result (mapped self.new ≡ marked (mapped self.old) page count false) }
         ensures texts { OnOk result (texts self.new ≡ marked (texts self.old) page count false) }
@@ -107,10 +126,16 @@ impl PagedMem {
     }
 
     /// The little-endian number in the `width` bytes from `addr` on; `width` is 1, 2 or 4.
+    ///
+    /// # Errors
+    ///
+    /// `Unmapped` exactly where a byte lies on no mapped page; it names the first.
     pub fn read(&self, addr: u32, width: u8) -> Result<u32, MemFault>
         requires { IsWidth width }
         ensures mapped { OnOk result (AllMapped (bytes self.now) addr width) }
+        ensures below { OnOk result (addr + width ≤ 2 ^ 24) }
         ensures value { IfOk result (λ value. value ≡ number_at (bytes self.now) addr width) }
+        ensures small { IfOk result (λ value. value < 256 ^ width) }
         ensures fault { IfErr result (IsReadFault self.now addr width) }
     {
         let at = addr as usize % PAGE_BYTES;
@@ -124,9 +149,15 @@ impl PagedMem {
     }
 
     /// Writes the `width` low bytes of `value` from `addr` on, the lowest first; `width` is 1, 2 or 4.
+    ///
+    /// # Errors
+    ///
+    /// `Unmapped` exactly where a byte lies on no mapped page, naming the first; `ReadOnly` exactly where all are
+    /// mapped and one is text. Nothing is written then.
     pub fn write(&mut self, addr: u32, width: u8, value: u32) -> Result<(), MemFault>
         requires { IsWidth width }
         ensures can { OnOk result (IsWritable self.old addr width) }
+        ensures below { OnOk result (addr + width ≤ 2 ^ 24) }
         ensures bytes { OnOk result (bytes self.new ≡ written (bytes self.old) addr (take width (to_le_bytes w32 value))) }
         ensures mapped { OnOk result (mapped self.new ≡ mapped self.old) }
         ensures texts { OnOk result (texts self.new ≡ texts self.old) }
@@ -141,8 +172,13 @@ impl PagedMem {
     }
 
     /// Reads as many bytes as `into` has, from `addr` on.
+    ///
+    /// # Errors
+    ///
+    /// `Unmapped` exactly where a byte lies on no mapped page, naming the first; `into` stays as it was then.
     pub fn read_bytes(&self, addr: u32, into: &mut [u8]) -> Result<(), MemFault>
         ensures mapped { OnOk result (AllMapped (bytes self.now) addr (length into.old)) }
+        ensures below { OnOk result (1 ≤ length into.old → addr + length into.old ≤ 2 ^ 24) }
         ensures value { OnOk result ((k : ℕ) → k < length into.new → bytes self.now (addr + k) ≡ Some (slice_index into.new k)) }
         ensures fault { IfErr result (IsReadFault self.now addr (length into.old)) }
         ensures unchanged { OnErr result (into.new ≡ into.old) }
@@ -164,8 +200,13 @@ impl PagedMem {
     }
 
     /// Writes the bytes of `from` from `addr` on.
+    ///
+    /// # Errors
+    ///
+    /// Those of `write`. Nothing is written then.
     pub fn write_bytes(&mut self, addr: u32, from: &[u8]) -> Result<(), MemFault>
         ensures can { OnOk result (IsWritable self.old addr (length from.now)) }
+        ensures below { OnOk result (1 ≤ length from.now → addr + length from.now ≤ 2 ^ 24) }
         ensures bytes { OnOk result (bytes self.new ≡ written (bytes self.old) addr from.now) }
         ensures mapped { OnOk result (mapped self.new ≡ mapped self.old) }
         ensures texts { OnOk result (texts self.new ≡ texts self.old) }
@@ -198,7 +239,11 @@ impl PagedMem {
         ensures page { option_copied result ≡ page_at self.now number }
         ensures below { IsSome result → number < 4096 }
     {
-        if number < PAGES { self.pages[number].as_ref() } else { None }
+        if number < PAGES {
+            self.pages[number].as_ref()
+        } else {
+            None
+        }
     }
 
     /// Whether the page of a number is mapped.
@@ -246,7 +291,8 @@ impl PagedMem {
     /// The first of `count` addresses from `addr` on that lies on no mapped page.
     fn first_unmapped(&self, addr: u32, count: usize) -> Option<u32>
         requires { count < 2 ^ 63 }
-        ensures { MatchOption result (AllMapped (bytes self.now) addr count) (λ byte. IsFirstUnmapped (bytes self.now) addr count byte) }
+        ensures first { MatchOption result (AllMapped (bytes self.now) addr count) (λ byte. IsFirstUnmapped (bytes self.now) addr count byte) }
+        ensures below { IfNone result (1 ≤ count → addr + count ≤ 2 ^ 24) }
     {
         let mut at = addr as usize;
         let end = at + count;
@@ -279,11 +325,13 @@ impl PagedMem {
     fn read_across(&self, addr: u32, width: u8) -> Result<u32, MemFault>
         requires { IsWidth width }
         ensures mapped { OnOk result (AllMapped (bytes self.now) addr width) }
+        ensures below { OnOk result (addr + width ≤ 2 ^ 24) }
         ensures value { IfOk result (λ value. value ≡ number_at (bytes self.now) addr width) }
+        ensures small { IfOk result (λ value. value < 256 ^ width) }
         ensures fault { IfErr result (IsReadFault self.now addr width) }
     {
         let mut buffer = [0; 4];
         self.read_bytes(addr, &mut buffer[..usize::from(width)])?;
-        Ok(u32::from_le_bytes(buffer))
+        Ok(number(&buffer, 0, width))
     }
 }

@@ -1,12 +1,31 @@
-ghost use Rattle.std.specs.Prelude.{◌≡◌, ℕ, ◌+◌, ◌-◌, ◌≤◌, ◌<◌, ◌&&◌, if◌then◌else◌, length, slice_index, nat_le, nat_lt, take, IfOk, replicate};
+ghost use Rattle.std.specs.Prelude.{◌≡◌, ℕ, ◌+◌, ◌-◌, ◌^◌, ◌≤◌, ◌<◌, ◌&&◌, if◌then◌else◌, length, slice_index, nat_le, nat_lt, take, IfOk, replicate};
 ghost use Rattle.std.specs.Int.{to_le_bytes, w32};
 ghost use Rattle.guest_mem.specs.Bytes.{IsWidth, number_from, overwritten};
 
-use std::alloc::{AllocError, Global};
+use pl_base::NoMemory;
+use std::alloc::Global;
 use std::marker::Model;
 
 /// How many bytes a page has.
 pub const PAGE_BYTES: usize = 4096;
+
+/// The little-endian number in the `width` bytes from `at` on; `width` is 1, 2 or 4.
+pub fn number(bytes: &[u8], at: usize, width: u8) -> u32
+    requires width { IsWidth width }
+    requires within { at + width ≤ length bytes.now }
+    ensures number { result ≡ number_from (slice_index bytes.now) at width }
+    ensures small { result < 256 ^ width }
+{
+    let low = u32::from(bytes[at]);
+    match width {
+        1 => low,
+        2 => low + 256 * u32::from(bytes[at + 1]),
+        _ => {
+            let high = u32::from(bytes[at + 2]) + 256 * u32::from(bytes[at + 3]);
+            low + 256 * u32::from(bytes[at + 1]) + 65536 * high
+        }
+    }
+}
 
 /// One mapped page.
 #[derive(Drop)]
@@ -28,7 +47,7 @@ impl Model for Page {
 
 impl Page {
     /// A page of zeros.
-    pub fn zeros(alloc: Global, text: bool) -> Result<Page, AllocError>
+    pub fn zeros(alloc: Global, text: bool) -> Result<Page, NoMemory>
         ensures text { IfOk result (λ p. p.text ≡ text) }
         ensures zeros { IfOk result (λ p. (k : ℕ) → slice_index p.bytes k ≡ 0) }
     {
@@ -47,18 +66,10 @@ impl Page {
     pub fn load(&self, at: usize, width: u8) -> u32
         requires width { IsWidth width }
         requires within { at + width ≤ 4096 }
-        ensures { result ≡ number_from (slice_index self.now.bytes) at width }
+        ensures number { result ≡ number_from (slice_index self.now.bytes) at width }
+        ensures small { result < 256 ^ width }
     {
-        let low = u32::from(self.bytes[at]);
-        match width {
-            1 => low,
-            2 => low + 256 * u32::from(self.bytes[at + 1]),
-            _ => {
-                low + 256
-                    * (u32::from(self.bytes[at + 1])
-                        + 256 * (u32::from(self.bytes[at + 2]) + 256 * u32::from(self.bytes[at + 3])))
-            }
-        }
+        number(&self.bytes, at, width)
     }
 
     /// Writes the `width` low bytes of `value` from `at` on, the lowest first; `width` is 1, 2 or 4.

@@ -1,4 +1,4 @@
-use Rattle.std.proofs.Common.{arith, None, false, ◌<◌, length}
+use Rattle.std.proofs.Common.{arith, None, ◌<◌, length}
 use Rattle.guest_mem.proofs.Repages.{repages_more, repages_none, nothing_shows}
 use Rattle.guest_mem.proofs.directory.clear.Goals as goal
 

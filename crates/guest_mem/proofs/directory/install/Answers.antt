@@ -1,4 +1,4 @@
-use Rattle.std.proofs.Common.{arith, Some, true, ◌<◌, vec_len, ◌≡◌, length, IsSome, ◌↔◌}
+use Rattle.std.proofs.Common.{arith, ◌<◌, vec_len, IsSome}
 use Rattle.std.proofs.lemmas.List.Elements.{All-pop}
 use Rattle.guest_mem.specs.Directory.{IsZeroPage}
 use Rattle.guest_mem.proofs.Repages.{repages_more, repages_none, zeros_show}
@@ -11,7 +11,8 @@ pub loop-number-preserved : goal.loop-number-preserved
 loop-number-preserved c =
     let popped = All-pop (IsZeroPage c.args.text) c.loop-number.fresh.items c.pop.new.self.items c.pop.result c.pop.ensures.items c.loop-number.invariant.1 in
     let more : 0 < vec_len c.loop-number.fresh = omega arith in
-    let some : IsSome c.pop.result = c.pop.ensures.variant.1 more in
-    (repages_more _ _ _ _ _ _ c.pop.result _ _ _ (omega arith) (omega arith) (omega arith) (zeros_show _ _ some popped.1) c.loop-number.invariant.0,
+    let some : IsSome c.pop.result = c.pop.ensures.variant.1 more in (
+      repages_more _ _ _ _ _ _ c.pop.result _ _ _ (omega arith) (omega arith) (omega arith) (zeros_show _ _ some popped.1) c.loop-number.invariant.0,
       popped.0,
-      grind arith)
+      grind arith,
+    )

@@ -1,6 +1,5 @@
-use Rattle.std.proofs.Common.{◌≡◌, ◌/◌, arith, false, true, sym, ◌∙◌, None, Some, is_some, refl, get_or}
-use Rattle.guest_mem.specs.Image.{PageImage}
-use Rattle.guest_mem.specs.Memory.{page_at, mapped}
+use Rattle.std.proofs.Common.{◌≡◌, ◌/◌, false, true}
+use Rattle.guest_mem.specs.Memory.{mapped}
 use Rattle.guest_mem.proofs.Pages.{mapped_within, bytes-put, mapped-put, texts-put, entry_is, not_mapped}
 use Rattle.guest_mem.proofs.directory.put.Goals as goal
 

@@ -9,8 +9,9 @@ put-requires-clause-mapped c =
     ∙ mapped-bytes _ _ (c.requires.mapped (c.args.at + c.loop-done.done) (omega arith) (omega arith))
 
 pub loop-done-preserved : goal.loop-done-preserved
-loop-done-preserved c =
-    (omega arith,
-      put_more _ _ _ _ c.loop-done.done _ _ (omega arith) (omega arith) c.loop-done.invariant.1 c.put.ensures.bytes,
-      c.put.ensures.mapped ∙ c.loop-done.invariant.2,
-      c.put.ensures.texts ∙ c.loop-done.invariant.3)
+loop-done-preserved c = (
+  omega arith,
+  put_more _ _ _ _ c.loop-done.done _ _ (omega arith) (omega arith) c.loop-done.invariant.1 c.put.ensures.bytes,
+  c.put.ensures.mapped ∙ c.loop-done.invariant.2,
+  c.put.ensures.texts ∙ c.loop-done.invariant.3,
+)

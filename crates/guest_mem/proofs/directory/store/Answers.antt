@@ -1,6 +1,6 @@
-use Rattle.std.proofs.Common.{◌≡◌, ℕ, ◌+◌, ◌%◌, ◌/◌, ◌<◌, ◌≤◌, length, true, false, arith, sym, ◌∙◌, ap, take, min, ◌∷◌, []}
+use Rattle.std.proofs.Common.{◌≡◌, ℕ, ◌/◌, true, false, arith, sym, ◌∙◌, ap}
 use Rattle.std.proofs.lemmas.List.{length-take}
-use Rattle.guest_mem.specs.Memory.{page_at, mapped, texts}
+use Rattle.guest_mem.specs.Memory.{texts}
 use Rattle.guest_mem.proofs.Pages.{all_mapped, first_is_unmapped, past_not_mapped, not_mapped, entry_is, mapped-page, texts-page, bytes-put, mapped-put, texts-put}
 use Rattle.guest_mem.proofs.Numbers.{some_width}
 use Rattle.guest_mem.proofs.directory.store.Goals as goal

@@ -1,4 +1,3 @@
-use Rattle.std.proofs.Common.{arith}
 use Rattle.guest_mem.proofs.Pages.{everywhere}
 use Rattle.guest_mem.proofs.page.Page.zeros.Goals as goal
 

@@ -11,6 +11,8 @@ mod notes;
 mod played;
 mod replay;
 mod status;
+#[cfg(test)]
+mod tests;
 mod top;
 
 pub use command::{Command, Guard};

@@ -35,13 +35,7 @@ fn result_of<L: Lifeguard>(alloc: Global, guard: L, log: &Log) -> Result<Answer,
     requires { HasValidParts log.now }
     ensures { IfOk result (λ answer. IsResult (L.rules guard) log.now answer.text.items answer.reported) }
 {
-    let monitor = play(
-        alloc,
-        guard,
-        log.harts,
-        log.pages.as_slice(),
-        &log.lines,
-    )?;
+    let monitor = play(alloc, guard, log.harts, log.pages.as_slice(), &log.lines)?;
     let masks = mask_table(alloc, &monitor)?;
     let runs = runs_of_plain(alloc, &monitor)?;
     let text = text(

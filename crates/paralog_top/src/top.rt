@@ -8,10 +8,10 @@ ghost use Rattle.paralog_top.specs.Defined.{limit_of};
 ghost use Rattle.paralog_top.specs.Endings.{ReadWhole, WritesAnswer, WritesLess, IsBadLog, IfEndsDone, IfEndsBadLog, IfEndsQuiet, IsEndComplete, IfQuiet, IsNoted, Noted, IsAnswered, IsComplete, log_note};
 ghost use Rattle.paralog_top.specs.Statuses.{IfDone};
 
+use crate::answer::{Answer, input_limit, make_answer};
 use crate::command::{Command, parse_command};
 use crate::ending::Ending;
 use crate::notes::{note, note_bad_log};
-use crate::answer::{Answer, input_limit, make_answer};
 use crate::status::Status;
 use log_text::LogRefused;
 use pl_base::{ReadEnd, Sink, Source, read_all, write_all_counted};

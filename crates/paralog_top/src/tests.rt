@@ -136,28 +136,29 @@ fn names_the_line_of_a_bad_log(rt: HostRuntime) {
     );
 }
 
-#[test]
-fn words_in_no_form_read_nothing(rt: HostRuntime) {
-    let alloc = rt.alloc();
-    for words in [
-        ["replay", "nosuch"].as_slice(),
-        ["replay"].as_slice(),
-        ["Replay", "addrcheck"].as_slice(),
-        [].as_slice(),
-    ] {
-        let written = run(
-            alloc,
-            words,
-            "PLOG 1 harts 2 block 16\n",
-            Vec::new(alloc),
-            Vec::new(alloc),
-        );
-        assert!(rt; written.is_ok(), "no memory");
-        if let Ok(written) = written {
-            assert_eq!(rt; written.status, Status::Usage);
-            assert_eq!(rt; written.notes.as_slice(), b"paralog: usage\n".as_slice());
-        }
+fn refuses<R: Abort>(rt: &R, alloc: Global, words: &[&str]) {
+    let written = run(
+        alloc,
+        words,
+        "PLOG 1 harts 2 block 16\n",
+        Vec::new(alloc),
+        Vec::new(alloc),
+    );
+    assert!(rt; written.is_ok(), "no memory");
+    if let Ok(written) = written {
+        assert_eq!(rt; written.status, Status::Usage);
+        assert_eq!(rt; written.notes.as_slice(), b"paralog: usage\n".as_slice());
     }
+}
+
+#[test]
+fn words_in_no_form_are_refused(rt: HostRuntime) {
+    let alloc = rt.alloc();
+    refuses(&rt, alloc, &["replay", "nosuch"]);
+    refuses(&rt, alloc, &["replay"]);
+    refuses(&rt, alloc, &["Replay", "addrcheck"]);
+    refuses(&rt, alloc, &["replay", "addrcheck", "addrcheck"]);
+    refuses(&rt, alloc, &[]);
 }
 
 #[test]

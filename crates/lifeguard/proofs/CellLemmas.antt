@@ -101,6 +101,10 @@ nibble_at_mapped cells a lt low = rw (bytes_of-at cells a lt, lt-ltb (get_or cel
 pub nibble_at_unmapped : (cells : List ℕ) (a : ℕ) → a < length cells → 8 ≤ get_or cells a 0 → nibble_at (bytes_of cells) a ≡ 0
 nibble_at_unmapped cells a lt high = rw (bytes_of-at cells a lt, le-ltb (get_or cells a 0) 8 high) refl
 
+-- bytes with one cell read alike
+pub nibble_at_same : (cells : List ℕ) (a b : ℕ) → a < length cells → b < length cells → get_or cells a 0 ≡ get_or cells b 0 → nibble_at (bytes_of cells) a ≡ nibble_at (bytes_of cells) b
+nibble_at_same cells a b first second same = rw (bytes_of-at cells a first, bytes_of-at cells b second, same) refl
+
 -- ---- the start
 
 abbrev pub empty_cells : ℕ → List ℕ

@@ -25,6 +25,7 @@ pub enum Check {
 }
 
 /// The nibble of a byte; none for a byte of no mapped page, and past the end.
+#[inline]
 pub fn byte_at(cells: &[u8], addr: u32) -> Option<u8>
     ensures { result ≡ bytes_of cells.now addr }
 {

@@ -1,9 +1,9 @@
-ghost use Rattle.std.specs.Prelude.{◌≡◌, ◌<◌, ◌≤◌, ◌+◌, ◌++◌, ◌∷◌, [], ◌^◌, List, All, IfOk, OnOk, OnErr};
+ghost use Rattle.std.specs.Prelude.{◌≡◌, ◌<◌, ◌≤◌, ◌+◌, ◌++◌, ◌∷◌, [], ◌^◌, List, All, IfOk, OnOk, OnErr, length};
 ghost use Rattle.pl_event.specs.Valid.{IsValidEvent};
 ghost use Rattle.pl_event.specs.declared.event.Event.{Event};
 ghost use Rattle.pl_event.specs.declared.log.PageRun.{PageRun};
 ghost use Rattle.lifeguard.specs.Plain.{plain_result};
-ghost use Rattle.lifeguard.specs.Stands.{Stands, IsUnchanged, state_of, place_of};
+ghost use Rattle.lifeguard.specs.Stands.{Stands, IsUnchanged, state_of, place_of, bytes_of};
 
 use crate::guard::Lifeguard;
 use crate::report::Report;
@@ -75,6 +75,15 @@ impl<L: Lifeguard> PlainMonitor<L> {
         ensures { result ≡ (state_of self.now.shadow).masks hart reg }
     {
         self.shadow.mask(hart, reg)
+    }
+
+    /// A cell for each byte of memory: its nibble, or 8 or more for a byte of no mapped page.
+    #[inline]
+    pub fn cells(&self) -> &[u8]
+        ensures bytes { bytes_of result.now ≡ (state_of self.now.shadow).bytes }
+        ensures whole { length result.now ≡ 2 ^ 24 }
+    {
+        self.shadow.cells()
     }
 
     /// The nibble of a byte; none exactly for a byte of no mapped page.

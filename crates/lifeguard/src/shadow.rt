@@ -1,4 +1,4 @@
-ghost use Rattle.std.specs.Prelude.{◌≡◌, ◌<◌, ◌≤◌, ◌+◌, ◌^◌, ℕ, [], All, OnOk, OnErr, IfOk, vec_len, slice_index};
+ghost use Rattle.std.specs.Prelude.{◌≡◌, ◌<◌, ◌≤◌, ◌+◌, ◌^◌, ℕ, [], All, OnOk, OnErr, IfOk, vec_len, slice_index, length};
 
 use crate::cells::{byte_at, map_runs, unmapped_cells};
 use crate::guard::Lifeguard;
@@ -86,6 +86,15 @@ impl Shadow {
         ensures { result ≡ (state_of self.now).masks hart reg }
     {
         mask_at(&self.masks, hart, reg)
+    }
+
+    /// A cell for each byte of memory: its nibble, or 8 or more for a byte of no mapped page.
+    #[inline]
+    pub fn cells(&self) -> &[u8]
+        ensures bytes { bytes_of result.now ≡ (state_of self.now).bytes }
+        ensures whole { length result.now ≡ 2 ^ 24 }
+    {
+        self.cells.as_slice()
     }
 
     /// The nibble of a byte; none exactly for a byte of no mapped page.

@@ -109,22 +109,46 @@ open_other first at n (suc m) runs begins ne = parts_by_onto first at n m runs n
 
 -- ---- the step of the loop
 
--- the loop's next byte has the nibble of the open run
-pub passed_same : (bytes : Bytes) (done : List ByteRun) (first at n total : ℕ) (whole : List ByteRun) → at < total → nibble_at bytes at ≡ n
+-- the next byte has the nibble of the open run
+passed_same : (bytes : Bytes) (done : List ByteRun) (first at n total : ℕ) (whole : List ByteRun) → at < total → nibble_at bytes at ≡ n
     → done ++ open_run first at n (runs_from bytes at (total - at)) ≡ whole → done ++ open_run first (at + 1) n (runs_from bytes (at + 1) (total - (at + 1))) ≡ whole
 passed_same bytes done first at n total whole lt is e =
     let step : open_run first at n (runs_from bytes at (total - at)) ≡ open_run first (at + 1) n (runs_from bytes (at + 1) (total - (at + 1))) =
     ap (open_run first at n) (runs_step bytes at total lt ∙ ap (λ (m : ℕ). onto_run at m (runs_from bytes (at + 1) (total - (at + 1)))) is) ∙ open_same first at n (runs_from bytes (at + 1) (total - (at + 1))) in
     ap (λ (t : List ByteRun). done ++ t) (sym step) ∙ e
 
--- the loop's next byte has another nibble
-pub passed_other : (bytes : Bytes) (done : List ByteRun) (first at n m total : ℕ) (whole : List ByteRun) → at < total → nibble_at bytes at ≡ m → (m ≡ n → ⊥)
+-- the next byte has another nibble
+passed_other : (bytes : Bytes) (done : List ByteRun) (first at n m total : ℕ) (whole : List ByteRun) → at < total → nibble_at bytes at ≡ m → (m ≡ n → ⊥)
     → done ++ open_run first at n (runs_from bytes at (total - at)) ≡ whole → (done ++ ended_run first at n) ++ open_run at (at + 1) m (runs_from bytes (at + 1) (total - (at + 1))) ≡ whole
 passed_other bytes done first at n m total whole lt is ne e =
     let later = runs_from bytes (at + 1) (total - (at + 1)) in
     let step : open_run first at n (runs_from bytes at (total - at)) ≡ ended_run first at n ++ open_run at (at + 1) m later =
     ap (open_run first at n) (runs_step bytes at total lt ∙ ap (λ (k : ℕ). onto_run at k later) is) ∙ open_other first at n m later (runs_begin bytes (at + 1) (total - (at + 1))) ne in
     append_assoc done (ended_run first at n) (open_run at (at + 1) m later) ∙ ap (λ (t : List ByteRun). done ++ t) (sym step) ∙ e
+
+-- the next bytes up to `end` all have the nibble of the open run
+passed_alike : (bytes : Bytes) (done : List ByteRun) (first at n total : ℕ) (whole : List ByteRun) (k end : ℕ) → end ≡ at + k → end ≤ total → ((a : ℕ) → at ≤ a → a < end → nibble_at bytes a ≡ n)
+    → done ++ open_run first at n (runs_from bytes at (total - at)) ≡ whole → done ++ open_run first end n (runs_from bytes end (total - end)) ≡ whole
+passed_alike bytes done first at n total whole zero end is within alike e =
+    let same : end ≡ at = omega arith in
+    rw same e
+passed_alike bytes done first at n total whole (suc k) end is within alike e =
+    let next : end ≡ at + k + 1 = omega arith in
+    rw next (passed_same bytes done first (at + k) n total whole (omega arith) (alike (at + k) (omega arith) (omega arith))
+    (passed_alike bytes done first at n total whole k (at + k) refl (omega arith) (λ a from below. alike a from (omega arith)) e))
+
+-- the loop's next byte and those up to `end` have the nibble of the open run
+pub passed_same_up_to : (bytes : Bytes) (done : List ByteRun) (first at n end total : ℕ) (whole : List ByteRun) → at < end → end ≤ total → nibble_at bytes at ≡ n → ((a : ℕ) → at ≤ a → a < end → nibble_at bytes a ≡ nibble_at bytes at)
+    → done ++ open_run first at n (runs_from bytes at (total - at)) ≡ whole → done ++ open_run first end n (runs_from bytes end (total - end)) ≡ whole
+passed_same_up_to bytes done first at n end total whole past within is alike e =
+    passed_alike bytes done first at n total whole (end - at) end (omega arith) within (λ a from below. alike a from below ∙ is) e
+
+-- they have another nibble
+pub passed_other_up_to : (bytes : Bytes) (done : List ByteRun) (first at n m end total : ℕ) (whole : List ByteRun) → at < end → end ≤ total → nibble_at bytes at ≡ m → ((a : ℕ) → at ≤ a → a < end → nibble_at bytes a ≡ nibble_at bytes at) → (m ≡ n → ⊥)
+    → done ++ open_run first at n (runs_from bytes at (total - at)) ≡ whole → (done ++ ended_run first at n) ++ open_run at end m (runs_from bytes end (total - end)) ≡ whole
+passed_other_up_to bytes done first at n m end total whole past within is alike ne e =
+    passed_alike bytes (done ++ ended_run first at n) at (at + 1) m total whole (end - (at + 1)) end (omega arith) within (λ a from below. alike a (omega arith) below ∙ is)
+    (passed_other bytes done first at n m total whole (omega arith) is ne e)
 
 -- the end of memory ends the open run
 pub passed_end : (bytes : Bytes) (done : List ByteRun) (first at n total : ℕ) (whole : List ByteRun) → at ≡ total

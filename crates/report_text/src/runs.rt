@@ -1,6 +1,6 @@
-ghost use Rattle.std.specs.Prelude.{◌≡◌, ◌<◌, ◌≤◌, ◌^◌, ◌++◌, IfOk, OnOk};
+ghost use Rattle.std.specs.Prelude.{◌≡◌, ℕ, true, ◌<◌, ◌≤◌, ◌+◌, ◌^◌, ◌++◌, length, slice_index, IfOk, OnOk};
 ghost use Rattle.lifeguard.specs.State.{Bytes, nibble_at};
-ghost use Rattle.lifeguard.specs.Stands.{state_of};
+ghost use Rattle.lifeguard.specs.Stands.{state_of, bytes_of};
 ghost use Rattle.report_text.specs.Runs.{runs_from, runs_of, AreLongestRuns, ended_run};
 
 use lifeguard::{Lifeguard, PlainMonitor};
@@ -21,21 +21,70 @@ pub struct ByteRun {
     pub nibble: u8,
 }
 
-/// What tells the nibble of each byte of memory.
+/// What tells the nibbles of the bytes of memory.
 trait Nibbles {
     ghost bytes: { Self → Bytes };
 
+    ghost count: { Self → ℕ };
+
     /// The nibble of a byte; 0 for a byte of no mapped page.
     fn nibble(&self, addr: u32) -> u8
+        requires { addr < count self.now }
         ensures { result ≡ nibble_at (bytes self.now) addr };
+
+    /// An address past `addr`, at most `size`, before which all bytes from `addr` on have its nibble.
+    fn alike_end(&self, addr: u32, size: u32) -> u32
+        requires inside { addr < size }
+        requires told { size ≤ count self.now }
+        ensures past { addr < result }
+        ensures inside { result ≤ size }
+        ensures alike { (a : ℕ) → addr ≤ a → a < result → nibble_at (bytes self.now) a ≡ nibble_at (bytes self.now) addr };
 }
 
-impl<L: Lifeguard> Nibbles for PlainMonitor<L> {
-    ghost bytes = { λ monitor. (state_of monitor.shadow).bytes };
+/// How many cells are compared in one go.
+const BLOCK: u32 = 64;
 
+/// The cells of a plain monitor, a byte each.
+#[derive(Clone, Copy)]
+struct Cells<'a> {
+    cells: &'a [u8],
+}
+
+impl<'a> Nibbles for Cells<'a> {
+    ghost bytes = { λ nibbles. bytes_of nibbles.cells.now };
+
+    ghost count = { λ nibbles. length nibbles.cells.now };
+
+    #[inline]
     fn nibble(&self, addr: u32) -> u8 {
-        self.byte(addr).unwrap_or(0)
+        let cell = self.cells[addr as usize];
+        if cell < 8 { cell } else { 0 }
     }
+
+    #[inline]
+    fn alike_end(&self, addr: u32, size: u32) -> u32 {
+        if addr % BLOCK == 0 && size - addr >= BLOCK && is_block_alike(self.cells, addr as usize) {
+            addr + BLOCK
+        } else {
+            addr + 1
+        }
+    }
+}
+
+/// Whether the cells of the block from `from` on are all the same.
+#[inline]
+fn is_block_alike(cells: &[u8], from: usize) -> bool
+    requires { from + 64 ≤ length cells.now }
+    ensures { result ≡ true → (a : ℕ) → from ≤ a → a < from + 64 → slice_index cells.now a ≡ slice_index cells.now from }
+{
+    let first = cells[from];
+    let mut alike = true;
+    for i in 0..BLOCK as usize {
+        if cells[from + i] != first {
+            alike = false;
+        }
+    }
+    alike
 }
 
 /// Adds the run from `first` up to before `at`, where there is one.
@@ -54,20 +103,27 @@ fn close(done: &mut Vec<ByteRun>, first: u32, at: u32, nibble: u8) -> Result<(),
 }
 
 /// The longest runs of the bytes below `size`, by address.
-fn runs_below<N: Nibbles>(alloc: Global, nibbles: &N, size: u32) -> Result<Vec<ByteRun>, NoMemory>
-    ensures runs { IfOk result (λ runs. runs.items ≡ runs_from (N.bytes nibbles.now) 0 size) }
-    ensures longest { IfOk result (λ runs. AreLongestRuns (N.bytes nibbles.now) 0 size runs.items) }
+fn runs_below<N: Nibbles + Copy>(
+    alloc: Global,
+    nibbles: N,
+    size: u32,
+) -> Result<Vec<ByteRun>, NoMemory>
+    requires { size ≤ N.count nibbles }
+    ensures runs { IfOk result (λ runs. runs.items ≡ runs_from (N.bytes nibbles) 0 size) }
+    ensures longest { IfOk result (λ runs. AreLongestRuns (N.bytes nibbles) 0 size runs.items) }
 {
     let mut done: Vec<ByteRun> = Vec::new(alloc);
     let mut first = 0u32;
     let mut nibble = 0u8;
-    for at in 0..size {
+    let mut at = 0u32;
+    while at < size {
         let next = nibbles.nibble(at);
         if next != nibble {
             close(&mut done, first, at, nibble)?;
             first = at;
             nibble = next;
         }
+        at = nibbles.alike_end(at, size);
     }
     close(&mut done, first, size, nibble)?;
     Ok(done)
@@ -81,5 +137,5 @@ pub fn runs_of_plain<L: Lifeguard>(
     ensures runs { IfOk result (λ runs. runs.items ≡ runs_of (state_of m.now.shadow).bytes) }
     ensures longest { IfOk result (λ runs. AreLongestRuns (state_of m.now.shadow).bytes 0 (2 ^ 24) runs.items) }
 {
-    runs_below(alloc, m, MEMORY_BYTES)
+    runs_below(alloc, Cells { cells: m.cells() }, MEMORY_BYTES)
 }

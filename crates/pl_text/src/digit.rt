@@ -2,6 +2,18 @@ ghost use Rattle.std.specs.Prelude.{◌≡◌, ◌<◌, ◌≤◌, ℕ, false, I
 ghost use Rattle.std.specs.Fmt.{digit_glyph};
 ghost use Rattle.pl_text.specs.Number.{BeginsWithDigit};
 
+/// The value of a digit, and 16 for any other byte, by choices between values without a jump.
+#[inline(always)]
+fn digit_value(byte: u8) -> u8
+    ensures found { result < 16 → byte ≡ digit_glyph false result }
+    ensures every { (value : ℕ) → value < 16 → byte ≡ digit_glyph false value → result ≡ value }
+{
+    let figure = byte.wrapping_sub(b'0');
+    let letter = byte.wrapping_sub(b'a');
+    let above_nine = if letter < 6 { letter + 10 } else { 16 };
+    if figure < 10 { figure } else { above_nine }
+}
+
 /// The value of a digit of the base: `0` to `9` and `a` to `f`.
 #[inline(always)]
 pub fn digit_of(byte: u8, base: u8) -> Option<u8>
@@ -10,11 +22,7 @@ pub fn digit_of(byte: u8, base: u8) -> Option<u8>
     ensures found { IfSome result (λ value. byte ≡ digit_glyph false value) }
     ensures missed { IfNone result ((value : ℕ) → value < base → byte ≡ digit_glyph false value → ⊥) }
 {
-    let value = match byte {
-        b'0'..=b'9' => byte - b'0',
-        b'a'..=b'f' => byte - b'a' + 10,
-        _ => return None,
-    };
+    let value = digit_value(byte);
     if value < base { Some(value) } else { None }
 }
 

@@ -22,7 +22,11 @@ pub fn digit_of(byte: u8, base: u8) -> Option<u8>
     ensures found { IfSome result (λ value. byte ≡ digit_glyph false value) }
     ensures missed { IfNone result ((value : ℕ) → value < base → byte ≡ digit_glyph false value → ⊥) }
 {
-    let value = digit_value(byte);
+    let value = if base <= 10 {
+        byte.wrapping_sub(b'0')
+    } else {
+        digit_value(byte)
+    };
     if value < base { Some(value) } else { None }
 }
 

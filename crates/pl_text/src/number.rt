@@ -43,6 +43,7 @@ pub fn number_at(text: &[u8], base: u8, high: u32) -> Option<(u32, &[u8])>
 }
 
 /// A number in base 10, as `number_at`.
+#[inline]
 pub fn decimal_at(text: &[u8], high: u32) -> Option<(u32, &[u8])>
     ensures found { IfSome result (λ r. BeginsWithNumber 10 high text.now r.0 r.1.now) }
     ensures every { (n : ℕ) (rest : List ℕ) → BeginsWithNumber 10 high text.now n rest
@@ -52,6 +53,7 @@ pub fn decimal_at(text: &[u8], high: u32) -> Option<(u32, &[u8])>
 }
 
 /// A number in base 16, as `number_at`.
+#[inline]
 pub fn hex_at(text: &[u8], high: u32) -> Option<(u32, &[u8])>
     ensures found { IfSome result (λ r. BeginsWithNumber 16 high text.now r.0 r.1.now) }
     ensures every { (n : ℕ) (rest : List ℕ) → BeginsWithNumber 16 high text.now n rest

@@ -1,6 +1,7 @@
 -- What is read at the front of a text is what is spelled there, and what is spelled there is read.
 use Rattle.std.proofs.Common.{◌≡◌, ℕ, ◌+◌, ◌-◌, ◌*◌, ◌^◌, ◌<◌, ◌≤◌, Bool, true, false, cond, not, ltb, leb, eqb, ◌&&◌, List, [], ◌∷◌, ◌++◌, ◌⊎◌, Option, Some, None, refl, sym, ap, ◌∙◌, inl, inr, arith}
 use Rattle.std.proofs.lemmas.Bool.{ltb-true, ltb-false, lt-ltb, le-ltb, leb-true, le-leb, eq-eqb, ne_eqb, cases_lt, cases_eq}
+use Rattle.std.proofs.Math.Nat.{mul-le-mul_left}
 use Rattle.std.specs.Fmt.{digits, digit_glyph}
 use Rattle.pl_text.specs.Number.{BeginsWithDigit, BeginsWithNumber}
 use Rattle.pl_text.proofs.Reading.{digit, read_from, number_of, front, read_on, goes_on, front_of}
@@ -227,3 +228,54 @@ pub on_more : (base high p c v : ℕ) (text cs : List ℕ) → base ≤ 16 → t
 on_more base high p c v text cs low e small is few =
     let value_is : digit c ≡ v = digit_is base c v low small is in
     sym (ap (read_on base high p) e ∙ rw (value_is, lt-ltb v base small, le-leb (p * base + v) high few) refl)
+
+-- a number of one digit, and what it is with a second digit, where one stands first
+pub record Second (base v w : ℕ) (text rest : List ℕ) : Type 0 where
+  pub taken : (byte digit : ℕ) (more : List ℕ) → text ≡ byte ∷ more → digit < base → byte ≡ digit_glyph false digit → (w ≡ v * base + digit) × (rest ≡ more)
+  pub left : (BeginsWithDigit base text → ⊥) → (w ≡ v) × (rest ≡ text)
+
+same_reading : (base high v w : ℕ) (text rest : List ℕ) → (w ≡ v) × (rest ≡ text) → read_on base high w rest ≡ read_on base high v text
+same_reading base high v w text rest h = ap (read_on base high w) h.1 ∙ ap (λ (n : ℕ). read_on base high n text) h.0
+
+second_on : (base high v w : ℕ) (text rest : List ℕ) → base ≤ 16 → Second base v w text rest → w ≤ high → read_on base high w rest ≡ read_on base high v text
+second_on base high v w [] rest low s few = same_reading base high v w [] rest (s.left (λ b. b))
+second_on base high v w (c ∷ cs) rest low s few =
+    elim (cases_lt (digit c) base) [
+      | inl small ↦
+          let glyph : c ≡ digit_glyph false (digit c) = sym (glyph_digit c (omega arith)) in
+          let h = s.taken c (digit c) cs refl small glyph in
+          same_reading base high (v * base + digit c) w cs rest h ∙ on_more base high v c (digit c) (c ∷ cs) cs low refl small glyph (omega (arith, few, h.0))
+      | inr large ↦ same_reading base high v w (c ∷ cs) rest (s.left (no_digit base (c ∷ cs) low (le-ltb (digit c) base large)))
+    ]
+
+second_high : (base high v w : ℕ) (text rest : List ℕ) → base ≤ 16 → Second base v w text rest → v ≤ high → high < w → read_on base high v text ≡ None
+second_high base high v w [] rest low s few many = absurd (omega (arith, few, many, (s.left (λ b. b)).0))
+second_high base high v w (c ∷ cs) rest low s few many =
+    elim (cases_lt (digit c) base) [
+      | inl small ↦
+          let glyph : c ≡ digit_glyph false (digit c) = sym (glyph_digit c (omega arith)) in
+          let h = s.taken c (digit c) cs refl small glyph in
+          on_high base high v c (digit c) (c ∷ cs) cs low refl small glyph (omega (arith, many, h.0))
+      | inr large ↦ absurd (omega (arith, few, many, (s.left (no_digit base (c ∷ cs) low (le-ltb (digit c) base large))).0))
+    ]
+
+second_least : (base v w : ℕ) (text rest : List ℕ) → 2 ≤ base → base ≤ 16 → Second base v w text rest → v ≤ w
+second_least base v w [] rest two low s = omega (arith, (s.left (λ b. b)).0)
+second_least base v w (c ∷ cs) rest two low s =
+    elim (cases_lt (digit c) base) [
+      | inl small ↦
+          let wide : v * 1 ≤ v * base = mul-le-mul_left v (omega (arith, two)) in
+          omega (arith, wide, (s.taken c (digit c) cs refl small (sym (glyph_digit c (omega arith)))).0)
+      | inr large ↦ omega (arith, (s.left (no_digit base (c ∷ cs) low (le-ltb (digit c) base large))).0)
+    ]
+
+pub front_second : (base high c v w : ℕ) (text cs rest : List ℕ) → 2 ≤ base → base ≤ 16 → text ≡ c ∷ cs → v < base → c ≡ digit_glyph false v → (v ≡ 0 → ⊥) → Second base v w cs rest → w ≤ high → read_on base high w rest ≡ front_of base high text
+front_second base high c v w text cs rest two low e small is some s few =
+    second_on base high v w cs rest low s few ∙ front_begins base high c v text cs low e small is some (omega (arith, few, second_least base v w cs rest two low s))
+
+pub front_second_high : (base high c v w : ℕ) (text cs rest : List ℕ) → base ≤ 16 → text ≡ c ∷ cs → v < base → c ≡ digit_glyph false v → (v ≡ 0 → ⊥) → Second base v w cs rest → high < w → front_of base high text ≡ None
+front_second_high base high c v w text cs rest low e small is some s many =
+    elim (cases_lt high v) [
+      | inl above ↦ front_high base high c v text cs low e small is above
+      | inr few ↦ sym (front_begins base high c v text cs low e small is some few) ∙ second_high base high v w cs rest low s few many
+    ]

@@ -3,7 +3,7 @@ ghost use Rattle.std.specs.Fmt.{digits};
 ghost use Rattle.pl_text.specs.Number.{BeginsWithDigit, BeginsWithNumber};
 
 use crate::bytes::first_byte;
-use crate::digit::{begins_with_digit, digit_of};
+use crate::digit::{begins_with_digit, digit_of, second_digit};
 
 /// The number of at most `high` that the text begins with, in lower-case digits of a base from 2 to 16 without leading
 /// zeros, and the rest of the text, which begins with no digit of the base.
@@ -16,18 +16,18 @@ pub fn number_at(text: &[u8], base: u8, high: u32) -> Option<(u32, &[u8])>
         → IsSomeAnd result (λ r. (r.0 ≡ n) × (r.1.now ≡ rest)) }
 {
     let (first, behind) = first_byte(text)?;
-    let mut value = u32::from(digit_of(first, base)?);
-    if value == 0 {
+    let figure = digit_of(first, base)?;
+    if figure == 0 {
         return if begins_with_digit(behind, base) {
             None
         } else {
             Some((0, behind))
         };
     }
+    let (mut value, mut rest) = second_digit(figure, behind, base);
     if value > high {
         return None;
     }
-    let mut rest = behind;
     while let Some((byte, after)) = first_byte(rest) {
         let Some(digit) = digit_of(byte, base) else {
             return Some((value, rest));
@@ -43,6 +43,7 @@ pub fn number_at(text: &[u8], base: u8, high: u32) -> Option<(u32, &[u8])>
 }
 
 /// A number in base 10, as `number_at`.
+#[inline(always)]
 pub fn decimal_at(text: &[u8], high: u32) -> Option<(u32, &[u8])>
     ensures found { IfSome result (λ r. BeginsWithNumber 10 high text.now r.0 r.1.now) }
     ensures every { (n : ℕ) (rest : List ℕ) → BeginsWithNumber 10 high text.now n rest
@@ -52,6 +53,7 @@ pub fn decimal_at(text: &[u8], high: u32) -> Option<(u32, &[u8])>
 }
 
 /// A number in base 16, as `number_at`.
+#[inline(always)]
 pub fn hex_at(text: &[u8], high: u32) -> Option<(u32, &[u8])>
     ensures found { IfSome result (λ r. BeginsWithNumber 16 high text.now r.0 r.1.now) }
     ensures every { (n : ℕ) (rest : List ℕ) → BeginsWithNumber 16 high text.now n rest

@@ -10,6 +10,7 @@ use pl_event::PageKind;
 use pl_text::{after_byte, after_word, decimal_at, first_byte, hex_at};
 
 /// A number of base 10.
+#[inline(always)]
 pub fn number(text: &[u8], high: u32) -> Option<(u32, &[u8])>
     ensures { Reads (λ n. n ≤ high) number_word text.now result }
 {
@@ -26,6 +27,7 @@ pub fn count(text: &[u8], high: u32) -> Option<(u32, &[u8])>
 }
 
 /// A register, the two hidden ones too.
+#[inline(always)]
 pub fn register(text: &[u8]) -> Option<(u8, &[u8])>
     ensures { Reads IsRegister number_word text.now result }
 {
@@ -34,6 +36,7 @@ pub fn register(text: &[u8]) -> Option<(u8, &[u8])>
 }
 
 /// An address of memory.
+#[inline(always)]
 pub fn address(text: &[u8]) -> Option<(u32, &[u8])>
     ensures { Reads (λ addr. addr < 2 ^ 24) (λ addr. hex addr ∷ []) text.now result }
 {
@@ -60,6 +63,7 @@ pub fn pages(text: &[u8]) -> Option<((u16, u16), &[u8])>
 }
 
 /// The register of the value, the base register and the address of a load or a store.
+#[inline(always)]
 pub fn access(text: &[u8]) -> Option<((u8, u8, u32), &[u8])>
     ensures { Reads IsAccess access_words text.now result }
 {
@@ -70,6 +74,7 @@ pub fn access(text: &[u8]) -> Option<((u8, u8, u32), &[u8])>
 }
 
 /// The width of a load.
+#[inline(always)]
 pub fn load_width(text: &[u8]) -> Option<(LoadWidth, &[u8])>
     ensures { Reads IsAny (λ width. load_word width ∷ []) text.now result }
 {
@@ -91,6 +96,7 @@ pub fn load_width(text: &[u8]) -> Option<(LoadWidth, &[u8])>
 }
 
 /// The width of a store.
+#[inline(always)]
 pub fn store_width(text: &[u8]) -> Option<(StoreWidth, &[u8])>
     ensures { Reads IsAny (λ width. store_word width ∷ []) text.now result }
 {
@@ -119,6 +125,7 @@ pub fn page_kind(text: &[u8]) -> Option<(PageKind, &[u8])>
 }
 
 /// The number of a hart, one digit, behind the letter h.
+#[inline(always)]
 pub fn hart(text: &[u8]) -> Option<(u8, &[u8])>
     ensures { Reads (λ hart. hart ≤ 9) (λ hart. (104 ∷ decimal hart) ∷ []) (32 ∷ text.now) result }
 {

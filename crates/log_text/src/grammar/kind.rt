@@ -8,6 +8,7 @@ use pl_event::Kind;
 use pl_text::{after_byte, first_byte};
 
 /// The kind of an event, each field in its range.
+#[inline(always)]
 pub fn kind_at(text: &[u8]) -> Option<(Kind, &[u8])>
     ensures { Reads HasFormFields kind_words text.now result }
 {
@@ -23,6 +24,7 @@ pub fn kind_at(text: &[u8]) -> Option<(Kind, &[u8])>
     }
 }
 
+#[inline(always)]
 fn load(text: &[u8]) -> Option<(Kind, &[u8])>
     ensures { Reads (IsKindOf (codes "ld")) operands text.now result }
 {
@@ -39,6 +41,7 @@ fn load(text: &[u8]) -> Option<(Kind, &[u8])>
     ))
 }
 
+#[inline(always)]
 fn store(text: &[u8]) -> Option<(Kind, &[u8])>
     ensures { Reads (IsKindOf (codes "st")) operands text.now result }
 {

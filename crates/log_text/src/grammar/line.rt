@@ -10,6 +10,7 @@ use pl_event::{Event, PageRun, Record};
 use pl_text::{after_byte, after_word};
 
 /// The words of a line in form.
+#[inline(always)]
 pub fn words_at(text: &[u8]) -> Option<(Item, &[u8])>
     ensures { Reads IsItem item_words (32 ∷ text.now) result }
 {
@@ -22,6 +23,7 @@ pub fn words_at(text: &[u8]) -> Option<(Item, &[u8])>
     }
 }
 
+#[inline(always)]
 fn record(text: &[u8]) -> Option<(Record, &[u8])>
     ensures { Reads IsRecordInForm record_words (32 ∷ text.now) result }
 {

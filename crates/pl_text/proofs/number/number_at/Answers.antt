@@ -1,35 +1,35 @@
 use Rattle.std.proofs.Common.{◌≡◌, ◌*◌, ◌∙◌, sym, refl, arith}
-use Rattle.pl_text.proofs.Fronts.{takes_front, refused, known, front_empty, front_no_digit, front_zero_more, front_zero, front_high, on_empty, on_no_digit, on_high}
+use Rattle.pl_text.proofs.Fronts.{takes_front, refused, known, front_empty, front_no_digit, front_zero_more, front_zero, front_second, front_second_high, on_empty, on_no_digit, on_high}
 use Rattle.pl_text.proofs.number.number_at.Goals as goal
 
 pub returns-in_err-first-clause-every : goal.returns-in_err-first-clause-every
 returns-in_err-first-clause-every c = λ n rest b. absurd (refused c.args.base c.args.high n c.args.text.now rest c.requires.low c.requires.small (omega arith) (front_empty c.args.base c.args.high c.args.text.now c.in_err-first.ensures.missed) b)
 
-pub returns-in_err-digit_of-clause-every : goal.returns-in_err-digit_of-clause-every
-returns-in_err-digit_of-clause-every c = λ n rest b.
-    absurd (refused c.args.base c.args.high n c.args.text.now rest c.requires.low c.requires.small (omega arith) (front_no_digit c.args.base c.args.high c.in_ok-first.first c.args.text.now c.in_ok-first.behind.now c.requires.small c.in_ok-first.ensures.found c.in_err-digit_of.ensures.missed) b)
+pub returns-in_err-figure-clause-every : goal.returns-in_err-figure-clause-every
+returns-in_err-figure-clause-every c = λ n rest b.
+    absurd (refused c.args.base c.args.high n c.args.text.now rest c.requires.low c.requires.small (omega arith) (front_no_digit c.args.base c.args.high c.in_ok-first.first c.args.text.now c.in_ok-first.behind.now c.requires.small c.in_ok-first.ensures.found c.in_err-figure.ensures.missed) b)
 
 pub returns-then-begins_with_digit-clause-every : goal.returns-then-begins_with_digit-clause-every
 returns-then-begins_with_digit-clause-every c = λ n rest b.
     refused c.args.base c.args.high n c.args.text.now rest c.requires.low c.requires.small (omega arith)
-    (front_zero_more c.args.base c.args.high c.in_ok-first.first c.in_ok-digit_of.field-0 c.args.text.now c.in_ok-first.behind.now c.requires.small c.in_ok-first.ensures.found c.in_ok-digit_of.ensures.below c.in_ok-digit_of.ensures.found (omega arith) (c.if-begins_with_digit.ensures.yes refl))
+    (front_zero_more c.args.base c.args.high c.in_ok-first.first c.in_ok-figure.figure c.args.text.now c.in_ok-first.behind.now c.requires.small c.in_ok-first.ensures.found c.in_ok-figure.ensures.below c.in_ok-figure.ensures.found (omega arith) (c.if-begins_with_digit.ensures.yes refl))
     b
 
 pub returns-else-begins_with_digit-clause-found : goal.returns-else-begins_with_digit-clause-found
 returns-else-begins_with_digit-clause-found c =
     takes_front c.args.base c.args.high 0 c.args.text.now c.in_ok-first.behind.now c.requires.low c.requires.small (omega arith)
-    (front_zero c.args.base c.args.high c.in_ok-first.first c.in_ok-digit_of.field-0 c.args.text.now c.in_ok-first.behind.now c.requires.small c.in_ok-first.ensures.found c.in_ok-digit_of.ensures.below c.in_ok-digit_of.ensures.found (omega arith) (λ h. let e = c.if-begins_with_digit.ensures.no h in absurd cc))
+    (front_zero c.args.base c.args.high c.in_ok-first.first c.in_ok-figure.figure c.args.text.now c.in_ok-first.behind.now c.requires.small c.in_ok-first.ensures.found c.in_ok-figure.ensures.below c.in_ok-figure.ensures.found (omega arith) (λ h. let e = c.if-begins_with_digit.ensures.no h in absurd cc))
 
 pub returns-else-begins_with_digit-clause-every : goal.returns-else-begins_with_digit-clause-every
 returns-else-begins_with_digit-clause-every c = λ n rest b.
     known c.args.base c.args.high n 0 c.args.text.now rest c.in_ok-first.behind.now c.requires.low c.requires.small (omega arith)
-    (front_zero c.args.base c.args.high c.in_ok-first.first c.in_ok-digit_of.field-0 c.args.text.now c.in_ok-first.behind.now c.requires.small c.in_ok-first.ensures.found c.in_ok-digit_of.ensures.below c.in_ok-digit_of.ensures.found (omega arith) (λ h. let e = c.if-begins_with_digit.ensures.no h in absurd cc))
+    (front_zero c.args.base c.args.high c.in_ok-first.first c.in_ok-figure.figure c.args.text.now c.in_ok-first.behind.now c.requires.small c.in_ok-first.ensures.found c.in_ok-figure.ensures.below c.in_ok-figure.ensures.found (omega arith) (λ h. let e = c.if-begins_with_digit.ensures.no h in absurd cc))
     b
 
 pub returns-then-value-high-clause-every : goal.returns-then-value-high-clause-every
 returns-then-value-high-clause-every c = λ n rest b.
     refused c.args.base c.args.high n c.args.text.now rest c.requires.low c.requires.small (omega arith)
-    (front_high c.args.base c.args.high c.in_ok-first.first c.in_ok-digit_of.field-0 c.args.text.now c.in_ok-first.behind.now c.requires.small c.in_ok-first.ensures.found c.in_ok-digit_of.ensures.below c.in_ok-digit_of.ensures.found (omega arith))
+    (front_second_high c.args.base c.args.high c.in_ok-first.first c.in_ok-figure.figure c.second_digit-value.result.0 c.args.text.now c.in_ok-first.behind.now c.second_digit-value.result.1.now c.requires.small c.in_ok-first.ensures.found c.in_ok-figure.ensures.below c.in_ok-figure.ensures.found c.if-figure-eq0.false (record { taken = c.second_digit-value.ensures.taken; left = c.second_digit-value.ensures.left }) (omega arith))
     b
 
 pub returns-in_default-digit_of-clause-found : goal.returns-in_default-digit_of-clause-found
@@ -60,3 +60,9 @@ returns-clause-every c = λ n rest b.
     known c.args.base c.args.high n c.loop-byte.value c.args.text.now rest c.loop-byte.rest.now c.requires.low c.requires.small (omega arith)
     (sym c.loop-byte.invariant.reads ∙ on_empty c.args.base c.args.high c.loop-byte.value c.loop-byte.rest.now c.in_default.ensures.missed)
     b
+
+pub loop-byte-init : goal.loop-byte-init
+loop-byte-init c = record {
+  reads = front_second c.args.base c.args.high c.in_ok-first.first c.in_ok-figure.figure c.second_digit-value.result.0 c.args.text.now c.in_ok-first.behind.now c.second_digit-value.result.1.now c.requires.low c.requires.small c.in_ok-first.ensures.found c.in_ok-figure.ensures.below c.in_ok-figure.ensures.found c.if-figure-eq0.false (record { taken = c.second_digit-value.ensures.taken; left = c.second_digit-value.ensures.left }) c.if-value-high.false;
+  low = c.if-value-high.false;
+}

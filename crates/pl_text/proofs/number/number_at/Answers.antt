@@ -63,6 +63,6 @@ returns-clause-every c = λ n rest b.
 
 pub loop-byte-init : goal.loop-byte-init
 loop-byte-init c = record {
-  reads = front_second c.args.base c.args.high c.in_ok-first.first c.in_ok-figure.figure c.second_digit-value.result.0 c.args.text.now c.in_ok-first.behind.now c.second_digit-value.result.1.now c.requires.low c.requires.small c.in_ok-first.ensures.found c.in_ok-figure.ensures.below c.in_ok-figure.ensures.found c.if-figure-eq0.false (record { taken = c.second_digit-value.ensures.taken; left = c.second_digit-value.ensures.left }) c.if-value-high.false;
-  low = c.if-value-high.false;
+  reads = front_second c.args.base c.args.high c.in_ok-first.first c.in_ok-figure.figure c.second_digit-value.result.0 c.args.text.now c.in_ok-first.behind.now c.second_digit-value.result.1.now c.requires.low c.requires.small c.in_ok-first.ensures.found c.in_ok-figure.ensures.below c.in_ok-figure.ensures.found c.if-figure-eq0.false (record { taken = c.second_digit-value.ensures.taken; left = c.second_digit-value.ensures.left }) (omega arith);
+  low = omega arith;
 }

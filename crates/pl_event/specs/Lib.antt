@@ -5,6 +5,7 @@ pub mod Feeds
 pub mod Graph
 pub mod Needs
 pub mod Numbers
+pub mod Packing
 pub mod Records
 pub mod Rows
 pub mod Valid

@@ -11,6 +11,7 @@ mod fed;
 mod lines;
 mod log;
 mod order;
+mod packed;
 mod streams;
 #[cfg(test)]
 mod tests;

@@ -1,0 +1,7 @@
+pub mod Core
+pub mod Counts
+pub mod Course
+pub mod Lanes
+pub mod Lawful
+pub mod Runs
+pub mod Shapes

@@ -8,6 +8,8 @@
 
 mod event;
 mod fed;
+mod feeds;
+mod heads;
 mod log;
 mod order;
 mod streams;
@@ -16,6 +18,7 @@ mod tests;
 
 pub use event::{Event, Kind, is_alert, valid_event};
 pub use fed::{Fed, Feed};
+pub use feeds::fed_of;
 pub use log::{Arcs, Line, Lines, Log, PageKind, PageRun, PageRuns, Point, Record};
 pub use order::log_paths;
 pub use streams::stream;

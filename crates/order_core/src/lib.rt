@@ -11,10 +11,15 @@
 
 mod course;
 mod laws;
+mod list_plan;
+mod lists;
 mod plan;
+mod record_plan;
 mod steps;
 
 pub use course::{Course, Op, Operation};
 pub use laws::{core_is_sequential, late_reads, never_stuck};
-pub use plan::Plan;
+pub use list_plan::ListPlan;
+pub use plan::{Plan, PlanOps};
+pub use record_plan::RecordPlan;
 pub use steps::{Act, CoreStep};

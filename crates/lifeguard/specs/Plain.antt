@@ -1,8 +1,8 @@
 -- The plain rules: what one event makes of a state, and all events one by one.
-use Rattle.std.specs.Prelude.{◌≡◌, ℕ, ◌+◌, ◌*◌, ◌/◌, ◌%◌, ◌^◌, Bool, true, false, not, ◌==◌, List, [], ◌∷◌, ◌++◌, length, Option, Some, None, find, if◌then◌else◌}
+use Rattle.std.specs.Prelude.{ℕ, ◌+◌, ◌*◌, ◌/◌, ◌%◌, ◌^◌, Bool, true, false, not, ◌==◌, List, [], ◌∷◌, ◌++◌, length, Option, Some, None, find, if◌then◌else◌}
 use Rattle.pl_base.specs.declared.widths.LoadWidth.{LoadWidth}
 use Rattle.pl_base.specs.declared.widths.LoadWidth.TheVariants as load
-use Rattle.pl_base.specs.declared.widths.FaultCause.TheVariants.{Pc, Illegal, Align, Unmapped, ReadOnly}
+use Rattle.pl_base.specs.declared.widths.FaultCause.TheVariants.{Unmapped}
 use Rattle.pl_base.specs.Widths.{load_bytes, store_bytes}
 use Rattle.pl_event.specs.declared.event.Event.{Event}
 use Rattle.pl_event.specs.declared.event.Kind.{Kind}
@@ -76,13 +76,17 @@ abbrev pub misdeed_report : Stand → Option (ReportKind × ℕ) → List Report
 misdeed_report at None = []
 misdeed_report at (Some deed) = report_at at deed.0 deed.1 ∷ []
 
+-- the report of what the event itself is, which a taint check leaves out
+abbrev pub misdeeds : Rules → Stand → Kind → List Report
+misdeeds rules at kind = if is_taint rules.name then [] else misdeed_report at (misdeed kind)
+
 -- the reports of an event, in order
 abbrev pub reports_of : Rules → Stand → Kind → State → List Report
 reports_of rules at kind state =
     reported at (register_report kind) (marked_register rules state.masks at.hart kind)
     ++ reported at report.Access (bad_touch rules state.bytes kind)
     ++ reported at report.Undef (bad_sent rules state.bytes kind)
-    ++ (if is_taint rules.name then [] else misdeed_report at (misdeed kind))
+    ++ misdeeds rules at kind
 
 -- ---- masks
 

@@ -1,12 +1,14 @@
 -- What a monitor keeps, as a state, and what it stands for.
-use Rattle.std.specs.Prelude.{◌≡◌, ℕ, ◌<◌, List, [], length, Option, Some, None, slice_index, slice_index_or, nat_lt, if◌then◌else◌}
+use Rattle.std.specs.Prelude.{◌≡◌, ℕ, ◌+◌, ◌<◌, List, [], length, Option, Some, None, slice_index, slice_index_or, ◌==◌, nat_lt, if◌then◌else◌}
 use Rattle.pl_event.specs.declared.event.Event.{Event}
 use Rattle.pl_event.specs.declared.log.PageRun.{PageRun}
 use Rattle.pl_event.specs.Numbers.{events_on}
 use Rattle.lifeguard.specs.declared.shadow.Shadow.{Shadow}
+use Rattle.lifeguard.specs.declared.report.Report.{Report}
+use Rattle.lifeguard.specs.declared.report.Stand.{Stand}
 use Rattle.lifeguard.specs.Rules.{Rules}
-use Rattle.lifeguard.specs.State.{State, Bytes, Masks}
-use Rattle.lifeguard.specs.Plain.{plain_result}
+use Rattle.lifeguard.specs.State.{State, Bytes, Masks, first_state}
+use Rattle.lifeguard.specs.Plain.{rule, plain_result}
 
 -- a cell of 8 or more stands for a byte of no mapped page
 abbrev pub cell_value : ℕ → Option ℕ
@@ -18,18 +20,37 @@ bytes_of cells a = cell_value (slice_index_or cells a 8)
 unfoldable pub masks_of : List (List ℕ) → Masks
 masks_of masks h r = slice_index (slice_index_or masks h []) r
 
+abbrev pub state_from : List ℕ → List (List ℕ) → List Report → State
+state_from cells masks reports = record { bytes = bytes_of cells; masks = masks_of masks; reports = reports }
+
 abbrev pub state_of : Shadow → State
-state_of shadow = record { bytes = bytes_of shadow.cells.items; masks = masks_of shadow.masks; reports = shadow.reports.items }
+state_of shadow = state_from shadow.cells.items shadow.masks shadow.reports.items
 
 -- how many events were applied
 abbrev pub place_of : Shadow → ℕ
 place_of shadow = shadow.place
+
+-- where the next event of a hart stands
+abbrev pub next_stand : Shadow → ℕ → Stand
+next_stand shadow hart = record { place = shadow.place + 1; hart = hart; number = slice_index shadow.counts hart + 1 }
 
 -- the shadow state is the plain result of these events
 pub record Stands (rules : Rules) (pages : List PageRun) (events : List Event) (shadow : Shadow) : Type 0 where
   pub state : state_of shadow ≡ plain_result rules pages events
   pub place : shadow.place ≡ length events
   pub counts : (h : ℕ) → h < 8 → slice_index shadow.counts h ≡ events_on h events
+
+-- no event was applied yet
+pub record Begins (rules : Rules) (pages : List PageRun) (shadow : Shadow) : Type 0 where
+  pub state : state_of shadow ≡ first_state rules pages
+  pub place : shadow.place ≡ 0
+  pub counts : (h : ℕ) → slice_index shadow.counts h ≡ 0
+
+-- one event was applied
+pub record IsStep (rules : Rules) (event : Event) (old new : Shadow) : Type 0 where
+  pub state : state_of new ≡ rule rules (next_stand old event.hart) event.kind (state_of old)
+  pub place : new.place ≡ old.place + 1
+  pub counts : (h : ℕ) → h < 8 → slice_index new.counts h ≡ slice_index old.counts h + (if event.hart == h then 1 else 0)
 
 -- nothing that a monitor shows has changed
 pub record IsUnchanged (old new : Shadow) : Type 0 where

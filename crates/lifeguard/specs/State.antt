@@ -1,5 +1,5 @@
 -- The state of a lifeguard: nibbles of mapped bytes, masks of registers, and reports.
-use Rattle.std.specs.Prelude.{◌≡◌, ℕ, zero, suc, ◌+◌, ◌-◌, ◌*◌, Bool, not, ◌&&◌, ◌==◌, nat_lt, nat_le, List, [], ◌∷◌, Option, Some, None, option_map, unwrap_or, fold, if◌then◌else◌}
+use Rattle.std.specs.Prelude.{ℕ, zero, suc, ◌+◌, ◌-◌, ◌*◌, Bool, not, ◌&&◌, ◌==◌, nat_lt, nat_le, List, [], ◌∷◌, Option, Some, None, option_map, unwrap_or, fold, if◌then◌else◌}
 use Rattle.pl_event.specs.declared.log.PageRun.{PageRun}
 use Rattle.lifeguard.specs.declared.report.Report.{Report}
 use Rattle.lifeguard.specs.Rules.{Rules}
@@ -48,10 +48,14 @@ with_mask hart register mask masks h r = if (h == hart) && (r == register) && no
 abbrev pub nothing : Bytes
 nothing a = None
 
+-- all masks are 0
+abbrev pub clear : Masks
+clear h r = 0
+
 -- before the first event: the pages of the start, all masks 0, no report
 abbrev pub first_state : Rules → List PageRun → State
 first_state rules pages = record {
   bytes = fold (λ bytes run. paged (Some (rules.page_state run.kind)) run.first run.count bytes) nothing pages;
-  masks = λ h r. 0;
+  masks = clear;
   reports = [];
 }

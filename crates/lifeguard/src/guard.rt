@@ -1,6 +1,6 @@
 ghost use Rattle.std.specs.Prelude.{◌≡◌, ◌<◌, ◌≤◌, ℕ, take, slice_index};
 ghost use Rattle.lifeguard.specs.Rules.{Rules, KeepsLaws};
-ghost use Rattle.lifeguard.specs.Plain.{load_bits};
+ghost use Rattle.lifeguard.specs.Plain.{load_bits, mask_from as mask_of_bits, bit_value as value_of_bit};
 
 use pl_base::LoadWidth;
 use pl_event::{Kind, PageKind};
@@ -87,14 +87,36 @@ pub trait Lifeguard: Copy {
 
 /// The mask of a register into which bytes with these nibbles, below 8, are loaded, the lowest first; a width of fewer
 /// bytes looks at the first ones alone.
+#[inline]
 pub fn load_mask<L: Lifeguard>(l: &L, nibbles: [u8; 4], width: LoadWidth) -> u8
     requires { (i : ℕ) → i < 4 → slice_index nibbles i < 8 }
     ensures value { result ≡ load_bits width ((L.rules l.now).load_bit (slice_index nibbles 0)) ((L.rules l.now).load_bit (slice_index nibbles 1))
         ((L.rules l.now).load_bit (slice_index nibbles 2)) ((L.rules l.now).load_bit (slice_index nibbles 3)) }
     ensures small { result < 16 }
 {
-    let _ = l;
-    let _ = nibbles;
-    let _ = width;
-    0
+    let [a, b, c, d] = nibbles;
+    match width {
+        LoadWidth::B => mask_from(l.load_bit(a), l.load_bit(a), l.load_bit(a), l.load_bit(a)),
+        LoadWidth::H => mask_from(l.load_bit(a), l.load_bit(b), l.load_bit(b), l.load_bit(b)),
+        LoadWidth::W => mask_from(l.load_bit(a), l.load_bit(b), l.load_bit(c), l.load_bit(d)),
+        LoadWidth::Bu => mask_from(l.load_bit(a), false, false, false),
+        LoadWidth::Hu => mask_from(l.load_bit(a), l.load_bit(b), false, false),
+    }
+}
+
+/// The mask with these bits, the lowest first.
+#[inline]
+fn mask_from(a: bool, b: bool, c: bool, d: bool) -> u8
+    ensures value { result ≡ mask_of_bits a b c d }
+    ensures small { result < 16 }
+{
+    bit_value(a) + 2 * bit_value(b) + 4 * bit_value(c) + 8 * bit_value(d)
+}
+
+#[inline]
+fn bit_value(bit: bool) -> u8
+    ensures value { result ≡ value_of_bit bit }
+    ensures small { result ≤ 1 }
+{
+    if bit { 1 } else { 0 }
 }

@@ -6,9 +6,12 @@
 //! parallel, gives what the fold of that rule gives. The plain monitor keeps one cell for each byte of memory.
 #![tactic(auto)]
 
+mod cells;
 mod guard;
+mod masks;
 mod plain;
 mod report;
+mod rules;
 mod shadow;
 
 pub use guard::{CheckedRegs, Lifeguard, Name, RangeKind, load_mask};

@@ -34,27 +34,29 @@ impl<L: Lifeguard> PlainMonitor<L> {
         ensures guard { IfOk result (λ monitor. monitor.guard ≡ l) }
         ensures harts { IfOk result (λ monitor. monitor.harts ≡ harts) }
     {
-        let _ = alloc;
-        let _ = l;
-        let _ = harts;
-        let _ = pages;
-        Err(NoMemory)
+        let shadow = Shadow::new(alloc, l, pages)?;
+        Ok(PlainMonitor {
+            guard: l,
+            harts,
+            shadow,
+        })
     }
 
     /// Applies one event that is valid for the run's number of harts. At most 2,000,000 events are applied. Without
     /// memory nothing changes.
+    #[inline]
     pub fn apply(&mut self, event: &Event) -> Result<(), NoMemory>
         requires few { self.old.harts ≤ 8 }
         requires valid { IsValidEvent event.now self.old.harts }
         requires room { place_of self.old.shadow < 2000000 }
         ensures stands { OnOk result ((pages : List PageRun) (events : List Event) → Stands (L.rules self.old.guard) pages events self.old.shadow
             → Stands (L.rules self.old.guard) pages (events ++ event.now ∷ []) self.new.shadow) }
+        ensures place { OnOk result (place_of self.new.shadow ≡ place_of self.old.shadow + 1) }
         ensures err { OnErr result (IsUnchanged self.old.shadow self.new.shadow) }
         ensures guard { self.new.guard ≡ self.old.guard }
         ensures harts { self.new.harts ≡ self.old.harts }
     {
-        let _ = event;
-        Err(NoMemory)
+        self.shadow.apply(self.guard, event)
     }
 
     /// The reports so far, in order.
@@ -65,6 +67,7 @@ impl<L: Lifeguard> PlainMonitor<L> {
     }
 
     /// The mask of a register, below 34, of a hart of the run.
+    #[inline]
     pub fn mask(&self, hart: u8, reg: u8) -> u8
         requires few { self.now.harts ≤ 8 }
         requires hart { hart < self.now.harts }
@@ -75,6 +78,7 @@ impl<L: Lifeguard> PlainMonitor<L> {
     }
 
     /// The nibble of a byte; none exactly for a byte of no mapped page.
+    #[inline]
     pub fn byte(&self, addr: u32) -> Option<u8>
         ensures { result ≡ (state_of self.now.shadow).bytes addr }
     {

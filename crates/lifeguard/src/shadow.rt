@@ -1,23 +1,75 @@
-ghost use Rattle.std.specs.Prelude.{◌≡◌, ◌<◌, ◌^◌, vec_len};
+ghost use Rattle.std.specs.Prelude.{◌≡◌, ◌<◌, ◌≤◌, ◌+◌, ◌^◌, ℕ, [], All, OnOk, OnErr, IfOk, vec_len, slice_index};
 
-use crate::report::Report;
+use crate::cells::{byte_at, map_runs, unmapped_cells};
+use crate::guard::Lifeguard;
+use crate::masks::{Masks, clear_masks, mask_at};
+use crate::report::{Report, Stand};
+use crate::rules::{change_bytes, change_masks, report_event};
+use pl_base::NoMemory;
+use pl_event::{Event, PageRun};
+use std::alloc::Global;
+
+/// The bytes of memory.
+const SIZE: usize = 16_777_216;
 
 /// The shadow state of a run: the nibble of each mapped byte, the mask of each register, and the reports.
 #[derive(Drop)]
 pub struct Shadow {
     /// A nibble for each byte of memory, or 8 for a byte of no mapped page.
     cells: Vec<u8>,
-    /// For each hart the masks of its registers.
-    masks: [[u8; 34]; 8],
+    masks: Masks,
     reports: Vec<Report>,
     /// How many events were applied, and of each hart.
     place: u32,
     counts: [u32; 8],
     ghost whole: { vec_len cells ≡ 2 ^ 24 },
+    ghost counted: { (h : ℕ) → slice_index counts h ≤ place },
 }
 
 impl Shadow {
-    ghost use Rattle.lifeguard.specs.Stands.{state_of};
+    ghost use Rattle.pl_event.specs.Valid.{HasValidFields};
+    ghost use Rattle.lifeguard.specs.State.{first_state};
+    ghost use Rattle.lifeguard.specs.Stands.{state_of, place_of, bytes_of, masks_of, IsStep, IsUnchanged, Begins};
+
+    /// The state before the first event, with these pages mapped.
+    pub fn new<L: Lifeguard>(alloc: Global, guard: L, pages: &[PageRun]) -> Result<Shadow, NoMemory>
+        requires inside { All (λ run. run.first + run.count ≤ 4096) pages.now }
+        ensures { IfOk result (Begins (L.rules guard) pages.now) }
+    {
+        let mut cells = unmapped_cells(alloc, SIZE)?;
+        map_runs(guard, &mut cells, pages);
+        Ok(Shadow {
+            cells,
+            masks: clear_masks(),
+            reports: Vec::new(alloc),
+            place: 0,
+            counts: [0; 8],
+        })
+    }
+
+    /// Applies an event of a hart below 8. Without memory nothing that shows changes.
+    #[inline]
+    pub fn apply<L: Lifeguard>(&mut self, guard: L, event: &Event) -> Result<(), NoMemory>
+        requires hart { event.now.hart < 8 }
+        requires valid { HasValidFields event.now.kind }
+        requires room { place_of self.old < 2000000 }
+        ensures ok { OnOk result (IsStep (L.rules guard) event.now self.old self.new) }
+        ensures err { OnErr result (IsUnchanged self.old self.new) }
+    {
+        let hart = event.hart;
+        let kind = &event.kind;
+        let at = Stand {
+            place: self.place + 1,
+            hart,
+            number: self.counts[hart as usize] + 1,
+        };
+        report_event(guard, &self.cells, &self.masks, &mut self.reports, at, kind)?;
+        change_masks(guard, &self.cells, &mut self.masks, hart, kind);
+        change_bytes(guard, &self.masks, &mut self.cells, hart, kind);
+        self.place = at.place;
+        self.counts[hart as usize] = at.number;
+        Ok(())
+    }
 
     /// The reports so far, in order.
     pub fn reports(&self) -> &[Report]
@@ -27,19 +79,20 @@ impl Shadow {
     }
 
     /// The mask of a register below 34 of a hart below 8.
+    #[inline]
     pub fn mask(&self, hart: u8, reg: u8) -> u8
         requires hart { hart < 8 }
         requires register { reg < 34 }
         ensures { result ≡ (state_of self.now).masks hart reg }
     {
-        self.masks[hart as usize][reg as usize]
+        mask_at(&self.masks, hart, reg)
     }
 
     /// The nibble of a byte; none exactly for a byte of no mapped page.
+    #[inline]
     pub fn byte(&self, addr: u32) -> Option<u8>
         ensures { result ≡ (state_of self.now).bytes addr }
     {
-        let cell = *self.cells.get(addr as usize)?;
-        if cell < 8 { Some(cell) } else { None }
+        byte_at(&self.cells, addr)
     }
 }

@@ -1,10 +1,8 @@
 -- Which lines are in form: each field is in its range, whatever stands before it.
-use Rattle.std.specs.Prelude.{◌≡◌, ℕ, ◌^◌, ◌<◌, ◌≤◌, List, []}
+use Rattle.std.specs.Prelude.{◌≡◌, ℕ, ◌^◌, ◌<◌, ◌≤◌, []}
 use Rattle.pl_event.specs.Valid.{IsRegister}
-use Rattle.pl_event.specs.declared.event.Event.{Event}
 use Rattle.pl_event.specs.declared.event.Kind.{Kind}
-use Rattle.pl_event.specs.declared.event.Kind.TheVariants.{Ld, St, Op, Mv, Im, Br, Jr, Al, Fr, Bf, Mp, Um, Rd, Wr, Ex, Ft}
-use Rattle.pl_event.specs.declared.log.Point.{Point}
+use Rattle.pl_event.specs.declared.event.Kind.TheVariants.{Ld, St, Al, Fr}
 use Rattle.pl_event.specs.declared.log.Record.{Record}
 use Rattle.pl_event.specs.declared.log.Record.TheVariants as entry
 use Rattle.log_text.specs.Spelling.{Entry, page, row}

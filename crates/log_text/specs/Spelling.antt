@@ -1,5 +1,5 @@
 -- The text of a log: each log has one spelling.
-use Rattle.std.specs.Prelude.{◌≡◌, ℕ, suc, ◌+◌, ◌==◌, false, List, [], ◌∷◌, ◌++◌, codes, map, Option, Some, None, if◌then◌else◌}
+use Rattle.std.specs.Prelude.{ℕ, suc, ◌==◌, false, List, [], ◌∷◌, ◌++◌, codes, map, Option, Some, None, if◌then◌else◌}
 use Rattle.std.specs.List.{join_with_byte, flat_map}
 use Rattle.std.specs.Fmt.{decimal, digits}
 use Rattle.pl_base.specs.declared.widths.LoadWidth.{LoadWidth}
@@ -8,7 +8,6 @@ use Rattle.pl_base.specs.declared.widths.StoreWidth.{StoreWidth}
 use Rattle.pl_base.specs.declared.widths.StoreWidth.TheVariants as store
 use Rattle.pl_base.specs.declared.widths.FaultCause.{FaultCause}
 use Rattle.pl_base.specs.declared.widths.FaultCause.TheVariants as fault
-use Rattle.pl_event.specs.declared.event.Event.{Event}
 use Rattle.pl_event.specs.declared.event.Kind.{Kind}
 use Rattle.pl_event.specs.declared.event.Kind.TheVariants as kind
 use Rattle.pl_event.specs.declared.log.Point.{Point}

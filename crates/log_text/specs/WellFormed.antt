@@ -2,9 +2,8 @@
 use Rattle.std.specs.Prelude.{◌≡◌, ℕ, ◌+◌, ◌%◌, ◌^◌, ◌<◌, ◌≤◌, ◌⊎◌, Bool, true, false, not, ◌||◌, ◌==◌, nat_lt, nat_le, List, [], ◌∷◌, ◌++◌, length, fold, sum_by, count_by, find, All, Option, None, Result, Ok, Err}
 use Rattle.std.specs.List.{list_any}
 use Rattle.pl_base.specs.Widths.{load_bytes, store_bytes}
-use Rattle.pl_event.specs.declared.event.Event.{Event}
 use Rattle.pl_event.specs.declared.event.Kind.{Kind}
-use Rattle.pl_event.specs.declared.event.Kind.TheVariants.{Ld, St, Op, Mv, Im, Br, Jr, Al, Fr, Bf, Mp, Um, Rd, Wr, Ex, Ft}
+use Rattle.pl_event.specs.declared.event.Kind.TheVariants.{Ld, St, Al, Fr, Rd, Wr}
 use Rattle.pl_event.specs.declared.log.Log.{Log}
 use Rattle.pl_event.specs.declared.log.PageRun.{PageRun}
 use Rattle.pl_event.specs.declared.log.Record.{Record}
@@ -14,6 +13,8 @@ use Rattle.log_text.specs.declared.cause.LogFault.{LogFault}
 use Rattle.log_text.specs.declared.cause.LogRefused.{LogRefused}
 use Rattle.log_text.specs.declared.cause.LogRefused.TheVariants as refused
 use Rattle.log_text.specs.declared.cause.LogCause.TheVariants as cause
+use Rattle.log_text.specs.declared.rule.Rule.{Rule}
+use Rattle.log_text.specs.declared.rule.Rule.TheVariants.{Page, Records, Hart, Access, Range}
 use Rattle.log_text.specs.Spelling.{Entry, page, row, header_text, line_text, entry_text, entries_text, entries_of, log_spelling}
 use Rattle.log_text.specs.Form.{IsInForm}
 
@@ -50,14 +51,6 @@ passes_end _ = false
 abbrev pub on_event : (Kind → Bool) → Record → Bool
 on_event test (entry.Event event) = test event.kind
 on_event test (entry.Notice hart point) = false
-
--- what a line in form can still break
-pub data Rule : Type 0 where
-  Page : Rule
-  Records : Rule
-  Hart : Rule
-  Access : Rule
-  Range : Rule
 
 -- a page line follows a record, starts below the end of the run before it, passes the last page, or maps more than 512
 abbrev pub breaks_page : List Entry → PageRun → Bool

@@ -1,5 +1,5 @@
 -- What stands before a line.
-use Rattle.std.proofs.Common.{◌≡◌, ◌≢◌, ℕ, zero, suc, ◌+◌, ◌^◌, ◌<◌, ◌≤◌, ◌⊎◌, Bool, eqb, eq-eqb, ne_eqb, if◌then◌else◌, List, [], ◌∷◌, ◌++◌, length, take, drop, filter, length-append, append-nil, zero-add, slice_index, slice_index_or, set, get_or, get_or-set_same, get_or-set_other, Option, Some, None, refl, sym, ap, ◌∙◌, subst, inl, inr, arith}
+use Rattle.std.proofs.Common.{◌≡◌, ◌≢◌, ℕ, zero, suc, ◌+◌, ◌^◌, ◌<◌, ◌≤◌, ◌⊎◌, Bool, eqb, eq-eqb, ne_eqb, if◌then◌else◌, List, [], ◌∷◌, ◌++◌, length, take, drop, filter, length-append, append-nil, zero-add, slice_get, slice_index, slice_index_or, set, get_or, get_or-set_same, get_or-set_other, Option, Some, None, refl, sym, ap, ◌∙◌, subst, inl, inr, arith}
 use Rattle.std.proofs.lemmas.List.Sums.{sum_by-append, count_by-le-length}
 use Rattle.std.specs.List.{cons_option}
 use Rattle.std.specs.Option.{option_to_list}
@@ -24,6 +24,9 @@ use Rattle.pl_event.proofs.Places.{one_place, record_at, before_up, before_own, 
 use Rattle.pl_event.proofs.Edges.{source_before}
 use Rattle.pl_event.proofs.Sources.{need_most, one_most}
 use Rattle.pl_event.proofs.Mosts.{later_most}
+
+abbrev some_line : Line → Option Line
+some_line l = Some l
 
 abbrev some_point : Point → Option Point
 some_point p = Some p
@@ -323,10 +326,10 @@ drop_here [] i l at = absurd (some-ne-none l (sym at))
 drop_here (x ∷ g) zero l at = ap (λ (z : Line). z ∷ g) (some-injective x l at)
 drop_here (x ∷ g) (suc i) l at = drop_here g i l at
 
-pub element : (g : List Line) (i : ℕ) (l : Line) → i < length g → l ≡ get_or g i l → get_elem? g i ≡ some l
-element [] i l low e = absurd (omega arith)
-element (x ∷ g) zero l low e = ap some (sym e)
-element (x ∷ g) (suc i) l low e = element g i l (omega arith) e
+pub got : (g : List Line) (i : ℕ) (l : Line) → slice_get g i ≡ Some l → get_elem? g i ≡ some l
+got [] i l e = absurd (let t : None ≡ some_line l = e in cc)
+got (x ∷ g) zero l e = let same : x ≡ l = cc in ap some same
+got (x ∷ g) (suc i) l e = got g i l e
 
 abbrev lines_of : ℕ → List Fed → List Fed
 lines_of h feds = filter (λ (fed : Fed). is_of h fed.line) feds

@@ -4,3 +4,5 @@ pub mod Mosts
 pub mod Paths
 pub mod Places
 pub mod Sources
+pub mod RowLemmas
+pub mod StreamLemmas

@@ -7,4 +7,5 @@ pub mod Heads
 pub mod Needs
 pub mod Numbers
 pub mod Records
+pub mod Rows
 pub mod Valid

@@ -4,7 +4,8 @@ ghost use Rattle.pl_event.specs.Feeds.{feds_of};
 
 use crate::fed::Fed;
 use crate::heads::Heads;
-use crate::log::{Line, Log};
+use crate::lines::Lines;
+use crate::log::Log;
 use crate::streams::record_hart;
 use pl_base::NoMemory;
 use std::alloc::Global;
@@ -16,10 +17,10 @@ pub fn fed_of(alloc: Global, log: &Log, hart: u8) -> Result<Vec<Fed>, NoMemory>
     requires few { length log.now.lines < 2 ^ 32 }
     ensures { IfOk result (λ feds. feds.items ≡ feds_of hart log.now.lines) }
 {
-    feds(alloc, log.harts, log.lines.as_slice(), hart)
+    feds(alloc, log.harts, &log.lines, hart)
 }
 
-fn feds(alloc: Global, harts: u8, lines: &[Line], hart: u8) -> Result<Vec<Fed>, NoMemory>
+fn feds(alloc: Global, harts: u8, lines: &Lines, hart: u8) -> Result<Vec<Fed>, NoMemory>
     requires flow { IsFlow harts lines.now }
     requires harts { harts ≤ 8 }
     requires few { length lines.now < 2 ^ 32 }
@@ -27,11 +28,12 @@ fn feds(alloc: Global, harts: u8, lines: &[Line], hart: u8) -> Result<Vec<Fed>, 
 {
     let mut heads = Heads::new();
     let mut feds = Vec::new(alloc);
-    for line in lines {
+    for at in 0..lines.len() {
+        let line = lines.get(at);
         if record_hart(&line.what) == hart {
-            feds.push(heads.fed(line))?;
+            feds.push(heads.fed(&line))?;
         }
-        heads.pass(line);
+        heads.pass(&line);
     }
     Ok(feds)
 }

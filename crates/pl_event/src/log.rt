@@ -1,6 +1,7 @@
 ghost use Rattle.std.specs.Prelude.{◌≡◌, ◌<◌, Some, None, replicate, slice_get};
 
 use crate::event::Event;
+use crate::lines::Lines;
 use std::alloc::{AllocError, Global};
 use std::marker::Model;
 
@@ -84,63 +85,6 @@ pub struct PageRun {
     pub first: u16,
     pub count: u16,
     pub kind: PageKind,
-}
-
-/// Lines, in order.
-#[derive(Drop)]
-pub struct Lines {
-    items: Vec<Line>,
-}
-
-impl Model for Lines {
-    ghost use Rattle.std.specs.Prelude.{List};
-    ghost use Rattle.pl_event.specs.declared.log.Line.{Line};
-
-    ghost Value = { List Line };
-
-    ghost view = { λ lines. lines.items.items };
-}
-
-impl Lines {
-    ghost use Rattle.std.specs.Prelude.{[], ◌∷◌, ◌++◌, OnOk, OnErr};
-
-    pub fn new(alloc: Global) -> Lines
-        ensures { result ≡ [] }
-    {
-        Lines {
-            items: Vec::new(alloc),
-        }
-    }
-
-    /// These lines; no memory is taken.
-    pub fn from_vec(items: Vec<Line>) -> Lines
-        ensures { result ≡ items.items }
-    {
-        Lines { items }
-    }
-
-    /// Gives the lines back; no memory is taken.
-    pub fn into_vec(self) -> Vec<Line>
-        ensures { result.items ≡ self }
-    {
-        let Lines { items } = self;
-        items
-    }
-
-    /// One more line at the end. Without memory the lines stay.
-    pub fn push(&mut self, line: Line) -> Result<(), AllocError>
-        ensures ok { OnOk result (self.new ≡ self.old ++ line ∷ []) }
-        ensures err { OnErr result (self.new ≡ self.old) }
-    {
-        self.items.push(line)?;
-        Ok(())
-    }
-
-    pub fn as_slice(&self) -> &[Line]
-        ensures { result.now ≡ self.now }
-    {
-        self.items.as_slice()
-    }
 }
 
 /// Runs of pages, in order.

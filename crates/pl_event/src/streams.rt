@@ -1,7 +1,8 @@
 ghost use Rattle.std.specs.Prelude.{◌≡◌, ◌<◌, ◌^◌, length, IfOk, ◌==◌};
 ghost use Rattle.pl_event.specs.Numbers.{positions_from, hart_of};
 
-use crate::log::{Line, Log, Record};
+use crate::lines::Lines;
+use crate::log::{Log, Record};
 use pl_base::NoMemory;
 use std::alloc::Global;
 
@@ -20,20 +21,18 @@ pub fn stream(alloc: Global, log: &Log, hart: u8) -> Result<Vec<u32>, NoMemory>
     requires { length log.now.lines < 2 ^ 32 }
     ensures { IfOk result (λ positions. positions.items ≡ positions_from hart 0 log.now.lines) }
 {
-    positions(alloc, log.lines.as_slice(), hart)
+    positions(alloc, &log.lines, hart)
 }
 
-fn positions(alloc: Global, lines: &[Line], hart: u8) -> Result<Vec<u32>, NoMemory>
+fn positions(alloc: Global, lines: &Lines, hart: u8) -> Result<Vec<u32>, NoMemory>
     requires { length lines.now < 2 ^ 32 }
     ensures { IfOk result (λ positions. positions.items ≡ positions_from hart 0 lines.now) }
 {
     let mut positions = Vec::new(alloc);
-    let mut at = 0u32;
-    for line in lines {
-        if record_hart(&line.what) == hart {
-            positions.push(at)?;
+    for at in 0..lines.len() {
+        if record_hart(&lines.record(at)) == hart {
+            positions.push(at as u32)?;
         }
-        at += 1;
     }
     Ok(positions)
 }

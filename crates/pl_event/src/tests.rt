@@ -68,12 +68,14 @@ fn a_stream_has_the_notices_of_its_hart(rt: HostRuntime) -> Result<(), Fail> {
         hart: 0,
         kind: Kind::Ex,
     });
-    for what in [notice, end, notice] {
-        lines.push(Line {
-            what,
-            arcs: Arcs::none(),
-        })?;
-    }
+    let line = |what| Line {
+        what,
+        arcs: Arcs::none(),
+    };
+    lines.push(line(notice))?;
+    lines.push(line(end))?;
+    lines.push(line(notice))?;
+    assert_eq!(rt; lines.len(), 3);
     let log = Log {
         harts: 2,
         block: 16,

@@ -5,8 +5,8 @@ use Rattle.pl_event.specs.Feeds.{feds_from, feds_of}
 use Rattle.pl_event.specs.Heads.{Tells}
 use Rattle.pl_event.proofs.feeds.feds.Given as goal
 
-abbrev pub invariant-loop-line : goal.invariant-loop-line
-invariant-loop-line l = record {
-  heads : Tells l.heads l.lines l.line-index;
-  told : l.feds.items ++ filter (λ (fed : Fed). is_of l.hart fed.line) (feds_from l.lines l.line-index (drop l.line-index l.lines)) ≡ feds_of l.hart l.lines;
+abbrev pub invariant-loop-at : goal.invariant-loop-at
+invariant-loop-at l = record {
+  heads : Tells l.heads l.lines l.at;
+  told : l.feds.items ++ filter (λ (fed : Fed). is_of l.hart fed.line) (feds_from l.lines l.at (drop l.at l.lines)) ≡ feds_of l.hart l.lines;
 }

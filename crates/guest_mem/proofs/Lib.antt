@@ -1,0 +1,6 @@
+pub mod Among
+pub mod Counts
+pub mod Numbers
+pub mod Pages
+pub mod Repages
+pub mod Whole

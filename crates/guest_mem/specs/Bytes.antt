@@ -1,0 +1,45 @@
+use Rattle.std.specs.Prelude.{◌≡◌, ℕ, zero, suc, ◌+◌, ◌-◌, ◌*◌, ◌/◌, ◌<◌, ◌≤◌, ◌⊎◌, ◌&&◌, Bool, if◌then◌else◌, Option, Some, None, List, length, slice_index, nat_le, nat_lt, unwrap_or, IsSome}
+
+-- how many bytes a load or a store moves
+abbrev pub IsWidth : ℕ → Type 0
+IsWidth width = (width ≡ 1) ⊎ (width ≡ 2) ⊎ (width ≡ 4)
+
+-- the number in `count` bytes from `at` on, the lowest byte first
+abbrev pub number_from : (ℕ → ℕ) → ℕ → ℕ → ℕ
+number_from bytes at zero = 0
+number_from bytes at (suc count) = bytes at + 256 * number_from bytes (at + 1) count
+
+-- the same where a byte may be on no mapped page, which counts as 0
+abbrev pub number_at : (ℕ → Option ℕ) → ℕ → ℕ → ℕ
+number_at bytes = number_from (λ k. unwrap_or (bytes k) 0)
+
+-- whether a place is one of `count` from `first` on
+abbrev pub is_among : ℕ → ℕ → ℕ → Bool
+is_among first count k = nat_le first k && nat_lt k (first + count)
+
+-- bytes after a list was written over them from `at` on
+abbrev pub overwritten : (ℕ → ℕ) → ℕ → List ℕ → ℕ → ℕ
+overwritten bytes at list k = if is_among at (length list) k then slice_index list (k - at) else bytes k
+
+-- the same of a memory's bytes: those at the written addresses are the list's, all others stay
+abbrev pub written : (ℕ → Option ℕ) → ℕ → List ℕ → ℕ → Option ℕ
+written bytes at list k = if is_among at (length list) k then Some (slice_index list (k - at)) else bytes k
+
+-- a memory's bytes after `count` pages from `first` on got that byte throughout, or none
+abbrev pub repaged : (ℕ → Option ℕ) → ℕ → ℕ → Option ℕ → ℕ → Option ℕ
+repaged bytes first count byte k = if is_among first count (k / 4096) then byte else bytes k
+
+-- a test of pages after `count` of them from `first` on got that answer
+abbrev pub marked : (ℕ → Bool) → ℕ → ℕ → Bool → ℕ → Bool
+marked test first count answer page = if is_among first count page then answer else test page
+
+-- each of `count` addresses from `at` on lies on a mapped page
+abbrev pub AllMapped : (ℕ → Option ℕ) → ℕ → ℕ → Type 0
+AllMapped bytes at count = (k : ℕ) → at ≤ k → k < at + count → IsSome (bytes k)
+
+-- `byte` is the first of `count` addresses from `at` on that lies on no mapped page
+pub record IsFirstUnmapped (bytes : ℕ → Option ℕ) (at count byte : ℕ) : Type 0 where
+  pub from : at ≤ byte
+  pub within : byte < at + count
+  pub unmapped : bytes byte ≡ None
+  pub before : (k : ℕ) → at ≤ k → k < byte → IsSome (bytes k)

@@ -1,0 +1,56 @@
+use Rattle.std.specs.Prelude.{◌≡◌, ℕ, ◌+◌, ◌/◌, ◌<◌, ◌≤◌, Bool, true, false, Option, List}
+use Rattle.guest_mem.specs.declared.fault.MapFault.{MapFault}
+use Rattle.guest_mem.specs.declared.fault.MapFault.TheVariants.{Range, Mapped, TooMany, NoMemory}
+use Rattle.guest_mem.specs.declared.fault.MemFault.{MemFault}
+use Rattle.guest_mem.specs.declared.fault.MemFault.TheVariants.{Unmapped, ReadOnly}
+use Rattle.guest_mem.specs.Bytes.{AllMapped, IsFirstUnmapped}
+use Rattle.guest_mem.specs.Image.{PageImage}
+use Rattle.guest_mem.specs.Memory.{bytes, mapped, texts, count_below}
+
+-- no page is past 4,095
+abbrev pub InRange : ℕ → ℕ → Type 0
+InRange first count = first + count ≤ 4096
+
+-- a test has the same answer at each of `count` pages from `first` on
+abbrev pub EachPage : (ℕ → Bool) → ℕ → ℕ → Bool → Type 0
+EachPage test first count answer = (page : ℕ) → first ≤ page → page < first + count → test page ≡ answer
+
+-- a test has that answer at one of them
+abbrev pub SomePage : (ℕ → Bool) → ℕ → ℕ → Bool → Type 0
+SomePage test first count answer = (page : ℕ) × (first ≤ page) × (page < first + count) × (test page ≡ answer)
+
+-- with `count` pages more, at most 512 are mapped
+abbrev pub HasRoom : List (Option PageImage) → ℕ → Type 0
+HasRoom memory count = count_below (mapped memory) 4096 + count ≤ 512
+
+-- the pages can be mapped
+pub record CanMap (memory : List (Option PageImage)) (first count : ℕ) : Type 0 where
+  pub in_range : InRange first count
+  pub free : EachPage (mapped memory) first count false
+  pub room : HasRoom memory count
+
+-- why pages are not mapped: each cause yields to those before it
+abbrev pub IsMapFault : List (Option PageImage) → ℕ → ℕ → MapFault → Type 0
+IsMapFault memory first count Range = 4096 < first + count
+IsMapFault memory first count Mapped = InRange first count × SomePage (mapped memory) first count true
+IsMapFault memory first count TooMany = InRange first count × EachPage (mapped memory) first count false × (512 < count_below (mapped memory) 4096 + count)
+IsMapFault memory first count NoMemory = CanMap memory first count
+
+-- why bytes are not read
+abbrev pub IsReadFault : List (Option PageImage) → ℕ → ℕ → MemFault → Type 0
+IsReadFault memory at count (Unmapped byte) = IsFirstUnmapped (bytes memory) at count byte
+IsReadFault memory at count ReadOnly = ⊥
+
+-- one of `count` addresses from `at` on lies on a page of text
+abbrev pub HasText : List (Option PageImage) → ℕ → ℕ → Type 0
+HasText memory at count = (k : ℕ) × (at ≤ k) × (k < at + count) × (texts memory (k / 4096) ≡ true)
+
+-- each byte is mapped, and none is text
+pub record IsWritable (memory : List (Option PageImage)) (at count : ℕ) : Type 0 where
+  pub all_mapped : AllMapped (bytes memory) at count
+  pub no_text : (k : ℕ) → at ≤ k → k < at + count → texts memory (k / 4096) ≡ false
+
+-- why bytes are not written
+abbrev pub IsWriteFault : List (Option PageImage) → ℕ → ℕ → MemFault → Type 0
+IsWriteFault memory at count (Unmapped byte) = IsFirstUnmapped (bytes memory) at count byte
+IsWriteFault memory at count ReadOnly = AllMapped (bytes memory) at count × HasText memory at count

@@ -1,0 +1,23 @@
+-- What a reader of a well-formed log may rely on.
+use Rattle.std.specs.Prelude.{◌≡◌, ℕ, ◌+◌, ◌<◌, ◌≤◌, length, All}
+use Rattle.pl_event.specs.Valid.{IsValidEvent}
+use Rattle.pl_event.specs.declared.log.Line.{Line}
+use Rattle.pl_event.specs.declared.log.Log.{Log}
+use Rattle.pl_event.specs.declared.log.Record.{Record}
+use Rattle.pl_event.specs.declared.log.Record.TheVariants as entry
+
+-- a record's event is one of a run of so many harts
+abbrev pub IsValidRecord : ℕ → Record → Type 0
+IsValidRecord harts (entry.Event event) = IsValidEvent event harts
+IsValidRecord harts (entry.Notice hart point) = hart < harts
+
+abbrev pub IsValidLine : ℕ → Line → Type 0
+IsValidLine harts line = IsValidRecord harts line.what
+
+-- each event is valid, no page passes the last one, and there are at most 2,000,000 records
+pub record HasValidParts (log : Log) : Type 0 where
+  pub some : 1 ≤ log.harts
+  pub few : log.harts ≤ 8
+  pub inside : All (λ run. run.first + run.count ≤ 4096) log.pages
+  pub valid : All (IsValidLine log.harts) log.lines
+  pub short : length log.lines ≤ 2000000

@@ -1,0 +1,128 @@
+ghost use Rattle.std.specs.Prelude.{◌≡◌, ◌<◌, ◌≤◌, ◌^◌, ℕ, [], ◌∷◌};
+ghost use Rattle.pl_event.specs.Valid.{IsRegister};
+ghost use Rattle.std.specs.Fmt.{decimal};
+ghost use Rattle.log_text.specs.Form.{IsBlock, IsPages};
+ghost use Rattle.log_text.specs.Spelling.{hex, load_word, store_word, page_word};
+ghost use Rattle.log_text.specs.Reads.{Reads, IsAny, IsFrom, IsAccess, number_word, access_words};
+
+use pl_base::{LoadWidth, StoreWidth};
+use pl_event::PageKind;
+use pl_text::{after_byte, after_word, decimal_at, first_byte, hex_at};
+
+/// A number of base 10.
+pub fn number(text: &[u8], high: u32) -> Option<(u32, &[u8])>
+    ensures { Reads (λ n. n ≤ high) number_word text.now result }
+{
+    let rest = after_byte(text, b' ')?;
+    decimal_at(rest, high)
+}
+
+/// A number of base 10 from 1 on.
+pub fn count(text: &[u8], high: u32) -> Option<(u32, &[u8])>
+    ensures { Reads (IsFrom 1 high) number_word text.now result }
+{
+    let (n, rest) = number(text, high)?;
+    if n == 0 { None } else { Some((n, rest)) }
+}
+
+/// A register, the two hidden ones too.
+pub fn register(text: &[u8]) -> Option<(u8, &[u8])>
+    ensures { Reads IsRegister number_word text.now result }
+{
+    let (n, rest) = number(text, 33)?;
+    Some((n as u8, rest))
+}
+
+/// An address of memory.
+pub fn address(text: &[u8]) -> Option<(u32, &[u8])>
+    ensures { Reads (λ addr. addr < 2 ^ 24) (λ addr. hex addr ∷ []) text.now result }
+{
+    let rest = after_byte(text, b' ')?;
+    hex_at(rest, 0x00ff_ffff)
+}
+
+/// The address of a block and how many bytes it has.
+pub fn block(text: &[u8]) -> Option<((u32, u32), &[u8])>
+    ensures { Reads (λ b. IsBlock b.0 b.1) (λ b. hex b.0 ∷ decimal b.1 ∷ []) text.now result }
+{
+    let (addr, rest) = address(text)?;
+    let (len, rest) = count(rest, 65_536)?;
+    Some(((addr, len), rest))
+}
+
+/// A page and how many pages there are from it on.
+pub fn pages(text: &[u8]) -> Option<((u16, u16), &[u8])>
+    ensures { Reads (λ p. IsPages p.0 p.1) (λ p. decimal p.0 ∷ decimal p.1 ∷ []) text.now result }
+{
+    let (first, rest) = number(text, 4095)?;
+    let (count, rest) = count(rest, 512)?;
+    Some(((first as u16, count as u16), rest))
+}
+
+/// The register of the value, the base register and the address of a load or a store.
+pub fn access(text: &[u8]) -> Option<((u8, u8, u32), &[u8])>
+    ensures { Reads IsAccess access_words text.now result }
+{
+    let (value, rest) = register(text)?;
+    let (base, rest) = register(rest)?;
+    let (addr, rest) = address(rest)?;
+    Some(((value, base, addr), rest))
+}
+
+/// The width of a load.
+pub fn load_width(text: &[u8]) -> Option<(LoadWidth, &[u8])>
+    ensures { Reads IsAny (λ width. load_word width ∷ []) text.now result }
+{
+    let rest = after_byte(text, b' ')?;
+    let (letter, rest) = first_byte(rest)?;
+    if let Some(rest) = after_byte(rest, b'u') {
+        return match letter {
+            b'b' => Some((LoadWidth::Bu, rest)),
+            b'h' => Some((LoadWidth::Hu, rest)),
+            _ => None,
+        };
+    }
+    match letter {
+        b'b' => Some((LoadWidth::B, rest)),
+        b'h' => Some((LoadWidth::H, rest)),
+        b'w' => Some((LoadWidth::W, rest)),
+        _ => None,
+    }
+}
+
+/// The width of a store.
+pub fn store_width(text: &[u8]) -> Option<(StoreWidth, &[u8])>
+    ensures { Reads IsAny (λ width. store_word width ∷ []) text.now result }
+{
+    let rest = after_byte(text, b' ')?;
+    let (letter, rest) = first_byte(rest)?;
+    match letter {
+        b'b' => Some((StoreWidth::B, rest)),
+        b'h' => Some((StoreWidth::H, rest)),
+        b'w' => Some((StoreWidth::W, rest)),
+        _ => None,
+    }
+}
+
+/// What pages hold at the start.
+pub fn page_kind(text: &[u8]) -> Option<(PageKind, &[u8])>
+    ensures { Reads IsAny (λ kind. page_word kind ∷ []) text.now result }
+{
+    if let Some(rest) = after_word(text, b" data") {
+        Some((PageKind::Data, rest))
+    } else if let Some(rest) = after_word(text, b" heap") {
+        Some((PageKind::Heap, rest))
+    } else {
+        let rest = after_word(text, b" stack")?;
+        Some((PageKind::Stack, rest))
+    }
+}
+
+/// The number of a hart, one digit, behind the letter h.
+pub fn hart(text: &[u8]) -> Option<(u8, &[u8])>
+    ensures { Reads (λ hart. hart ≤ 9) (λ hart. (104 ∷ decimal hart) ∷ []) (32 ∷ text.now) result }
+{
+    let rest = after_byte(text, b'h')?;
+    let (hart, rest) = decimal_at(rest, 9)?;
+    Some((hart as u8, rest))
+}

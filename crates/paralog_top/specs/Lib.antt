@@ -1,0 +1,4 @@
+pub mod Commands
+pub mod Defined
+pub mod Endings
+pub mod Statuses

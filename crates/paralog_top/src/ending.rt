@@ -1,0 +1,14 @@
+use log_text::LogFault;
+
+/// How a command ended, with what its note names.
+#[derive(Clone, Copy, Debug, PartialEq, Eq)]
+pub enum Ending {
+    /// The answer was written.
+    Done { reported: bool },
+    /// The input is no well-formed log.
+    BadLog(LogFault),
+    ReadFault,
+    WriteFault,
+    NoMemory,
+    TooLong,
+}

@@ -1,0 +1,20 @@
+//! The top call: words and bytes in, a text, a note and a status out.
+//!
+//! The words name a command. Its input is read whole, its answer is a text that is a function of the bytes read, and
+//! that text is written whole, in one go. Whatever ends the call before that has a status and a note of its own.
+#![tactic(auto)]
+
+mod answer;
+mod command;
+mod ending;
+mod notes;
+mod played;
+mod replay;
+mod status;
+#[cfg(test)]
+mod tests;
+mod top;
+
+pub use command::{Command, Guard};
+pub use status::Status;
+pub use top::plain_top;

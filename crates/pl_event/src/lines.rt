@@ -1,0 +1,125 @@
+ghost use Rattle.std.specs.Prelude.{◌≡◌, ◌<◌, ◌≤◌, length};
+ghost use Rattle.pl_event.specs.Rows.{arcs_at};
+
+use crate::log::{Arcs, Line, Record};
+use std::alloc::{AllocError, Global};
+use std::marker::Model;
+
+/// A record, and where its arcs stand: 0 for none, else one more than their place.
+#[derive(Clone, Copy)]
+pub struct Row {
+    what: Record,
+    slot: u32,
+}
+
+/// Lines, in order.
+///
+/// Records stand side by side, and the arcs of the lines that have any stand apart, so a line without takes 24 bytes.
+#[derive(Drop)]
+pub struct Lines {
+    rows: Vec<Row>,
+    arcs: Vec<Arcs>,
+}
+
+impl Model for Lines {
+    ghost use Rattle.std.specs.Prelude.{List};
+    ghost use Rattle.pl_event.specs.declared.log.Line.{Line};
+    ghost use Rattle.pl_event.specs.Rows.{lines_from, AreKept};
+
+    ghost Value = { List Line };
+
+    ghost view = { λ lines. lines_from lines.arcs.items lines.rows.items };
+
+    ghost invariant = { λ lines. AreKept lines.arcs.items lines.rows.items };
+}
+
+/// The arcs of a slot.
+#[inline]
+fn arcs_of(arcs: &[Arcs], slot: u32) -> Arcs
+    requires { slot ≤ length arcs.now }
+    ensures { result ≡ arcs_at arcs.now slot }
+{
+    if slot == 0 {
+        Arcs::none()
+    } else {
+        arcs[slot as usize - 1]
+    }
+}
+
+impl Lines {
+    ghost use Rattle.std.specs.Prelude.{[], ◌∷◌, ◌++◌, OnOk, OnErr, Some, None, IsTrue, ◌↔◌, replicate, slice_get, slice_index_or};
+    ghost use Rattle.pl_event.specs.declared.log.Line.{Line};
+
+    /// No line. No memory is taken.
+    pub fn new(alloc: Global) -> Lines
+        ensures { result ≡ [] }
+    {
+        Lines {
+            rows: Vec::new(alloc),
+            arcs: Vec::new(alloc),
+        }
+    }
+
+    /// How many there are.
+    #[inline]
+    pub fn len(&self) -> usize
+        ensures { result ≡ length self.now }
+    {
+        self.rows.len()
+    }
+
+    pub fn is_empty(&self) -> bool
+        ensures { IsTrue result ↔ (self.now ≡ []) }
+    {
+        self.rows.is_empty()
+    }
+
+    /// Line `i`, counted from 0.
+    pub fn get(&self, i: usize) -> Line
+        requires { i < length self.now }
+        ensures { slice_get self.now i ≡ Some result }
+    {
+        let Row { what, slot } = self.rows[i];
+        Line {
+            what,
+            arcs: arcs_of(&self.arcs, slot),
+        }
+    }
+
+    /// The record of line `i`, counted from 0.
+    #[inline]
+    pub fn record(&self, i: usize) -> Record
+        requires { i < length self.now }
+        ensures { (other : Line) → result ≡ (slice_index_or self.now i other).what }
+    {
+        self.rows[i].what
+    }
+
+    /// One more record at the end, without arcs. Without memory the lines stay.
+    #[inline]
+    pub fn push_record(&mut self, what: Record) -> Result<(), AllocError>
+        ensures ok { OnOk result (self.new ≡ self.old ++ record { what = what; arcs = replicate 8 None } ∷ []) }
+        ensures err { OnErr result (self.new ≡ self.old) }
+    {
+        self.rows.push(Row { what, slot: 0 })?;
+        Ok(())
+    }
+
+    /// One more line at the end, with its arcs. Without memory the lines stay; there is room for 2^32 - 2 such lines.
+    pub fn push(&mut self, line: Line) -> Result<(), AllocError>
+        ensures ok { OnOk result (self.new ≡ self.old ++ line ∷ []) }
+        ensures err { OnErr result (self.new ≡ self.old) }
+    {
+        let slot = self.arcs.len() + 1;
+        if slot >= u32::MAX as usize {
+            return Err(AllocError);
+        }
+        self.rows.reserve(1)?;
+        self.arcs.push(line.arcs)?;
+        self.rows.push(Row {
+            what: line.what,
+            slot: slot as u32,
+        })?;
+        Ok(())
+    }
+}

@@ -3,6 +3,7 @@ pub mod Conflicts
 pub mod Edges
 pub mod Feeds
 pub mod Graph
+pub mod Heads
 pub mod Needs
 pub mod Numbers
 pub mod Packing

@@ -8,6 +8,8 @@
 
 mod event;
 mod fed;
+mod feeds;
+mod heads;
 mod lines;
 mod log;
 mod order;
@@ -18,6 +20,7 @@ mod tests;
 
 pub use event::{Event, Kind, is_alert, valid_event};
 pub use fed::{Fed, Feed};
+pub use feeds::fed_of;
 pub use lines::Lines;
 pub use log::{Arcs, Line, Log, PageKind, PageRun, PageRuns, Point, Record};
 pub use order::log_paths;

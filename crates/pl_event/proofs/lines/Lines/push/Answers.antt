@@ -1,4 +1,4 @@
-use Rattle.std.proofs.Common.{◌≡◌, ◌∙◌, ◌+◌, ◌++◌, ◌∷◌, [], List, length, arith, ap, sym}
+use Rattle.std.proofs.Common.{◌∙◌, ◌+◌, ◌++◌, ◌∷◌, [], List, arith, ap}
 use Rattle.pl_event.specs.declared.log.Line.{Line}
 use Rattle.pl_event.proofs.RowLemmas.{lines_from-push}
 use Rattle.pl_event.proofs.lines.Lines.push.Goals as goal

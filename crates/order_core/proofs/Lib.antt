@@ -1,0 +1,11 @@
+pub mod Bound
+pub mod Counts
+pub mod Flatten
+pub mod Keeps
+pub mod ListLemmas
+pub mod Named
+pub mod Progress
+pub mod Ranks
+pub mod Values
+pub mod Whole
+pub mod Words

@@ -1,0 +1,19 @@
+-- The operations of a plan that is given by lists.
+use Rattle.std.specs.Prelude.{ℕ, zero, suc, ◌-◌, List, [], ◌∷◌, Vec, Option, Some, None, slice_get}
+use Rattle.std.specs.declared.alloc.Global.{Global}
+use Rattle.order_core.specs.declared.course.Op.{Op}
+use Rattle.order_core.specs.declared.record_plan.RecordPlan.{RecordPlan}
+
+-- the records of a hart
+abbrev pub stream_of : List (Vec RecordPlan Global) → ℕ → List RecordPlan
+stream_of [] h = []
+stream_of (records ∷ streams) zero = records.items
+stream_of (records ∷ streams) (suc h) = stream_of streams h
+
+abbrev pub ops_of : Option RecordPlan → List Op
+ops_of None = []
+ops_of (Some r) = r.operations.items
+
+-- the operations of record m of a hart, counted from 1
+abbrev pub ops_in : List (Vec RecordPlan Global) → ℕ → ℕ → List Op
+ops_in streams h m = ops_of (slice_get (stream_of streams h) (m - 1))

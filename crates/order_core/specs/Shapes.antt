@@ -1,0 +1,42 @@
+-- Operations whose values come from the words as they stand.
+use Rattle.std.specs.Prelude.{◌≡◌, ℕ, ◌<◌, Bool, true, false, List, [], ◌∷◌, if◌then◌else◌}
+use Rattle.order_core.specs.declared.course.Op.{Op}
+use Rattle.order_core.specs.declared.course.Operation.{Operation}
+use Rattle.order_core.specs.Lanes.{lane, covers}
+use Rattle.order_core.specs.Core.{put}
+
+-- an operation before its value is known: a read of a word, or a write of what becomes of the word
+pub record Shape : Type 0 where
+  pub word : ℕ
+  pub lanes : ℕ
+  pub write : Bool
+  pub check : Bool
+  pub change : ℕ → ℕ
+
+-- with what it finds or puts, where its word holds x
+abbrev pub filled_op : ℕ → Shape → Op
+filled_op x s = record { word = s.word; lanes = s.lanes; write = s.write; check = s.check; value = if s.write then s.change x else x }
+
+abbrev pub after_shape : (ℕ → ℕ) → Shape → (ℕ → ℕ)
+after_shape w s = if s.write then put w s.word (s.change (w s.word)) else w
+
+-- the operations, one after the other, from these words on
+abbrev pub fill : (ℕ → ℕ) → List Shape → List Op
+fill w [] = []
+fill w (s ∷ ss) = filled_op (w s.word) s ∷ fill (after_shape w s) ss
+
+abbrev pub after_shapes : (ℕ → ℕ) → List Shape → (ℕ → ℕ)
+after_shapes w [] = w
+after_shapes w (s ∷ ss) = after_shapes (after_shape w s) ss
+
+-- a read finds its word as it stands, and a write leaves the lanes that it does not name
+abbrev pub IsFilled : (ℕ → ℕ) → Operation → Type 0
+IsFilled w a = (a.write ≡ false → a.value ≡ w a.word) × (a.write ≡ true → (j : ℕ) → j < 4 → covers a j ≡ false → lane j a.value ≡ lane j (w a.word))
+
+abbrev pub after_operation : (ℕ → ℕ) → Operation → (ℕ → ℕ)
+after_operation w a = if a.write then put w a.word a.value else w
+
+-- each of the operations, in order, from these words on
+abbrev pub AreFilled : (ℕ → ℕ) → List Operation → Type 0
+AreFilled w [] = Unit {0}
+AreFilled w (a ∷ rest) = IsFilled w a × AreFilled (after_operation w a) rest

@@ -1,0 +1,25 @@
+//! The order in which the operations of a run may be made by harts beside each other, so that each read finds what the
+//! sequential run has there.
+//!
+//! A plan is a log, the opening words of a table, and for each record of the log its operations on these words. It is
+//! laid out as a course: one list of all operations in executed order. The core's state is counts alone: how many of
+//! its writes each hart has performed, how far its progress word is, and what it has seen of the others'. A write is
+//! performed where its rank among its hart's writes is below that count, so what a word holds is what the performed
+//! writes leave there, lane by lane. Everything rests on one fact: where the needs of a record were seen and a path
+//! leads to it from another hart, that hart's progress word is not below the path's beginning.
+#![tactic(auto)]
+
+mod course;
+mod laws;
+mod list_plan;
+mod lists;
+mod plan;
+mod record_plan;
+mod steps;
+
+pub use course::{Course, Op, Operation};
+pub use laws::{core_is_sequential, late_reads, never_stuck};
+pub use list_plan::ListPlan;
+pub use plan::{Plan, PlanOps};
+pub use record_plan::RecordPlan;
+pub use steps::{Act, CoreStep};

@@ -1,0 +1,85 @@
+ghost use Rattle.std.specs.Prelude.{◌≡◌, ℕ, ◌+◌, ◌-◌, ◌^◌, ◌<◌, Some, length, slice_get};
+ghost use Rattle.pl_event.specs.Records.{records_before};
+ghost use Rattle.pl_event.specs.Needs.{needs_of};
+ghost use Rattle.order_core.specs.Course.{course_of};
+ghost use Rattle.order_core.specs.Lawful.{IsLawful};
+ghost use Rattle.order_core.specs.Lists.{stream_of, ops_in};
+
+use crate::course::Op;
+use crate::list_plan::ListPlan;
+use crate::plan::{Plan, PlanOps};
+use crate::record_plan::RecordPlan;
+use pl_event::{Arcs, Log};
+
+impl ListPlan {
+    ghost use Rattle.order_core.specs.declared.record_plan.RecordPlan.{RecordPlan};
+
+    /// The plan of this log, these opening words, and for each hart these records.
+    pub fn new(log: Log, opening: Vec<u64>, streams: Vec<Vec<RecordPlan>>) -> ListPlan
+        requires lawful { ∥ IsLawful (course_of log opening.items (ops_in streams.items)) ∥₁ }
+        requires harts { length streams.items ≡ log.harts }
+        requires records { (h : ℕ) → h < log.harts → length (stream_of streams.items h) ≡ records_before h log.lines (length log.lines) }
+        requires needs { (h m : ℕ) (r : RecordPlan) → h < log.harts → slice_get (stream_of streams.items h) m ≡ Some r → r.needs ≡ needs_of log.lines h (m + 1) }
+        requires few { length log.lines < 4294967295 }
+        requires small { length opening.items < 2 ^ 32 }
+        ensures log { result.log ≡ log }
+        ensures opening { result.opening ≡ opening }
+        ensures streams { result.streams ≡ streams }
+    {
+        ListPlan {
+            log,
+            opening,
+            streams,
+        }
+    }
+}
+
+impl Plan for ListPlan {
+    ghost log = { λ plan. plan.log };
+
+    ghost opening = { λ plan. plan.opening.items };
+
+    ghost operations = { λ plan. ops_in plan.streams.items };
+
+    fn harts(&self) -> u8 {
+        self.log.harts
+    }
+
+    fn block(&self) -> u8 {
+        self.log.block
+    }
+
+    ghost lawful = { λ plan. plan.lawful };
+}
+
+// The records of a hart.
+fn stream<'a>(streams: &'a [Vec<RecordPlan>], hart: u8) -> &'a [RecordPlan]
+    requires { hart < length streams.now }
+    ensures { result.now ≡ stream_of streams.now hart }
+{
+    streams[hart as usize].as_slice()
+}
+
+impl PlanOps for ListPlan {
+    fn len(&self, hart: u8) -> u32 {
+        stream(self.streams.as_slice(), hart).len() as u32
+    }
+
+    fn op(&self, hart: u8, number: u32, i: u32) -> Option<Op> {
+        let records = stream(self.streams.as_slice(), hart);
+        records[(number - 1) as usize]
+            .operations
+            .get(i as usize)
+            .copied()
+    }
+
+    fn needs(&self, hart: u8, number: u32) -> Arcs {
+        stream(self.streams.as_slice(), hart)[(number - 1) as usize].needs
+    }
+
+    fn opening(&self, word: u32) -> Option<u64> {
+        self.opening.get(word as usize).copied()
+    }
+
+    ghost few = { λ plan. plan.few };
+}

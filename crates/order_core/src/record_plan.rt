@@ -1,0 +1,9 @@
+use crate::course::Op;
+use pl_event::Arcs;
+
+/// What a record does, and what it needs of the other harts.
+#[derive(Drop)]
+pub struct RecordPlan {
+    pub operations: Vec<Op>,
+    pub needs: Arcs,
+}

@@ -7,10 +7,9 @@ use paralog_top::{Status, plain_top};
 use pl_base::write_all_counted;
 use standard::{Reading, Writing};
 use std::alloc::Global;
-use std::env;
-use std::io;
 use std::io::ErrorKind;
 use std::process::ExitCode;
+use std::{env, io};
 
 /// The words behind the program's name.
 fn words(rt: &HostRuntime, alloc: Global) -> io::Result<Vec<String>> {

@@ -16,7 +16,7 @@ some_size (suc size) told is = let same : suc size ≡ told = cc in (same, omega
 pub asked_at : (sizes : List ℕ) (unit : ℕ) → asked sizes (4194304 + 16 * unit) ≡ size_of (get_or sizes unit 0)
 unfolding asked
 asked_at sizes unit =
-    let test : (nat_le 4194304 (4194304 + 16 * unit) && ((4194304 + 16 * unit) % 16 == 0)) ≡ true = and_from _ _ (le-leb _ _ (omega arith)) (eq-eqb _ _ (omega arith)) in
+    let test : (nat_le 4194304 (4194304 + 16 * unit) && ((4194304 + 16 * unit) % 16 == 0)) ≡ true = and_from _ _ (le-leb 4194304 (4194304 + 16 * unit) (omega arith)) (eq-eqb ((4194304 + 16 * unit) % 16) 0 (omega arith)) in
     let place : (4194304 + 16 * unit - 4194304) / 16 ≡ unit = omega arith in
     rw (test, place) refl
 
@@ -32,10 +32,13 @@ asked_odd sizes a odd =
     let test : (nat_le 4194304 a && (a % 16 == 0)) ≡ false = and_right _ _ (ne_eqb _ _ odd) in
     rw test refl
 
+either_none : (test : Bool) (told : Option ℕ) → told ≡ None → (if test then told else None) ≡ None
+either_none true told none = none
+either_none false told none = refl
+
 pub asked_zero : (sizes : List ℕ) (a : ℕ) → get_or sizes ((a - 4194304) / 16) 0 ≡ 0 → asked sizes a ≡ None
 unfolding asked
-asked_zero sizes a none =
-    rw none (elim (nat_le 4194304 a && (a % 16 == 0)) as (λ test. (if test then None else None) ≡ None) [ true ↦ refl | false ↦ refl ])
+asked_zero sizes a none = either_none (nat_le 4194304 a && (a % 16 == 0)) (size_of (get_or sizes ((a - 4194304) / 16) 0)) (ap size_of none)
 
 pub asked_live : (sizes : List ℕ) (a size : ℕ) → asked sizes a ≡ Some size →
   (4194304 ≤ a) × (a % 16 ≡ 0) × (get_or sizes ((a - 4194304) / 16) 0 ≡ size) × (0 < size)
@@ -76,7 +79,7 @@ asked_set sizes unit size at within is = fun_ext (λ a.
 pub zero_everywhere : (sizes : List ℕ) (n k : ℕ) → sizes ≡ replicate n 0 → get_or sizes k 0 ≡ 0
 zero_everywhere sizes n k is =
     rw is (elim (cases_lt k n) [ inl within ↦ get_or-replicate n k 0 0 within
-      | inr past ↦ let short : length (replicate n 0) ≤ k = rw length-replicate past in get_or_past (replicate n 0) k 0 short ])
+      | inr past ↦ let short : length (replicate {A = ℕ} n 0) ≤ k = rw length-replicate past in get_or_past (replicate n 0) k 0 short ])
 
 pub asked_none : (sizes : List ℕ) (n : ℕ) → sizes ≡ replicate n 0 → asked sizes ≡ (λ a. None)
 asked_none sizes n is = fun_ext (λ a. asked_zero sizes a (zero_everywhere sizes n ((a - 4194304) / 16) is))

@@ -15,7 +15,7 @@ returns-then-hole-need-clause-all c =
     let i = c.in_ok-index.index in
     let within : i < length holes = subst (λ (xs : List Hole). i < length xs) c.deref.ensures.value c.in_ok-index.ensures.within in
     let fits : c.args.need ≤ room holes i = subst (λ (xs : List Hole). c.args.need ≤ room xs i) c.deref.ensures.value c.in_ok-index.ensures.fits in
-    let start = read_start holes i c.index.result.now c.index.ensures within in
+    let start = read_start holes i c.index-hole.result.now c.index-hole.ensures within in
     λ unit from before. in_at holes i unit within (omega (arith, start, from)) (omega (arith, start, fits, before))
 
 pub returns-then-hole-need-clause-lowest : goal.returns-then-hole-need-clause-lowest
@@ -24,7 +24,7 @@ returns-then-hole-need-clause-lowest c =
     let i = c.in_ok-index.index in
     let within : i < length holes = subst (λ (xs : List Hole). i < length xs) c.deref.ensures.value c.in_ok-index.ensures.within in
     let shorts : (k : ℕ) → k < i → room holes k < c.args.need = subst (λ (xs : List Hole). (k : ℕ) → k < i → room xs k < c.args.need) c.deref.ensures.value c.in_ok-index.ensures.first in
-    let start = read_start holes i c.index.result.now c.index.ensures within in
+    let start = read_start holes i c.index-hole.result.now c.index-hole.ensures within in
     λ unit all. omega (arith, start, lowest_place holes i c.args.need unit c.requires.apart within c.requires.some shorts all)
 
 pub returns-then-hole-need-clause-loses : goal.returns-then-hole-need-clause-loses
@@ -32,8 +32,8 @@ returns-then-hole-need-clause-loses c =
     let holes = c.args.holes.now.items in
     let i = c.in_ok-index.index in
     let within : i < length holes = subst (λ (xs : List Hole). i < length xs) c.deref.ensures.value c.in_ok-index.ensures.within in
-    subst (λ (new : List Hole). Loses holes new c.index.result.now.start c.args.need) (sym c.remove.ensures.items)
-    (lose_whole holes i c.args.need c.index.result.now c.requires.apart within c.index.ensures c.if-hole-need.true)
+    subst (λ (new : List Hole). Loses holes new c.index-hole.result.now.start c.args.need) (sym c.remove.ensures.items)
+    (lose_whole holes i c.args.need c.index-hole.result.now c.requires.apart within c.index-hole.ensures c.if-hole-need.true)
 
 pub returns-else-hole-need-clause-all : goal.returns-else-hole-need-clause-all
 returns-else-hole-need-clause-all c =
@@ -41,7 +41,7 @@ returns-else-hole-need-clause-all c =
     let i = c.in_ok-index.index in
     let within : i < length holes = subst (λ (xs : List Hole). i < length xs) c.deref.ensures.value c.in_ok-index.ensures.within in
     let fits : c.args.need ≤ room holes i = subst (λ (xs : List Hole). c.args.need ≤ room xs i) c.deref.ensures.value c.in_ok-index.ensures.fits in
-    let start = read_start holes i c.index.result.now c.index.ensures within in
+    let start = read_start holes i c.index-hole.result.now c.index-hole.ensures within in
     λ unit from before. in_at holes i unit within (omega (arith, start, from)) (omega (arith, start, fits, before))
 
 pub returns-else-hole-need-clause-lowest : goal.returns-else-hole-need-clause-lowest
@@ -50,7 +50,7 @@ returns-else-hole-need-clause-lowest c =
     let i = c.in_ok-index.index in
     let within : i < length holes = subst (λ (xs : List Hole). i < length xs) c.deref.ensures.value c.in_ok-index.ensures.within in
     let shorts : (k : ℕ) → k < i → room holes k < c.args.need = subst (λ (xs : List Hole). (k : ℕ) → k < i → room xs k < c.args.need) c.deref.ensures.value c.in_ok-index.ensures.first in
-    let start = read_start holes i c.index.result.now c.index.ensures within in
+    let start = read_start holes i c.index-hole.result.now c.index-hole.ensures within in
     λ unit all. omega (arith, start, lowest_place holes i c.args.need unit c.requires.apart within c.requires.some shorts all)
 
 pub returns-else-hole-need-clause-loses : goal.returns-else-hole-need-clause-loses
@@ -59,6 +59,6 @@ returns-else-hole-need-clause-loses c =
     let i = c.in_ok-index.index in
     let within : i < length holes = subst (λ (xs : List Hole). i < length xs) c.deref.ensures.value c.in_ok-index.ensures.within in
     let fits : c.args.need ≤ room holes i = subst (λ (xs : List Hole). c.args.need ≤ room xs i) c.deref.ensures.value c.in_ok-index.ensures.fits in
-    let start = read_start holes i c.index.result.now c.index.ensures within in
-    let end = read_end holes i c.index.result.now c.index.ensures within in
-    lose_front holes i c.args.need c.index.result.now c.requires.apart within c.index.ensures (omega (arith, fits, start, end, c.if-hole-need.false, c.requires.some))
+    let start = read_start holes i c.index-hole.result.now c.index-hole.ensures within in
+    let end = read_end holes i c.index-hole.result.now c.index-hole.ensures within in
+    lose_front holes i c.args.need c.index-hole.result.now c.requires.apart within c.index-hole.ensures (omega (arith, fits, start, end, c.if-hole-need.false, c.requires.some))

@@ -74,21 +74,25 @@ starts_rise from (hole ∷ holes) (suc i) (suc k) apart below within = starts_ri
 
 -- free units in a row lie in one hole, since no two holes touch
 pub in_one : (from : ℕ) (holes : List Hole) (start count : ℕ) → IsApart from holes → 0 < count → AllIn holes start count →
-  (k : ℕ) × (k < length holes) × (start_of holes k ≤ start) × (count ≤ room holes k)
+    (k : ℕ) × (k < length holes) × (start_of holes k ≤ start) × (count ≤ room holes k)
 in_one from [] start count apart some all = absurd (all start (omega arith) (omega arith))
 in_one from (hole ∷ holes) start count apart some all =
     elim (all start (omega arith) (omega arith)) [
-      inl here ↦
-        elim (cases_lt hole.end (start + count)) [
-          inl past ↦
-            elim (all hole.end (omega (arith, here.1)) past) [
-              inl past_it ↦ absurd (omega (arith, past_it.1))
-              | inr later ↦ absurd (omega (arith, in_above (hole.end + 1) holes hole.end apart.2 later)) ]
-          | inr within ↦ (0, omega arith, here.0, omega (arith, here.0, here.1, within)) ]
+      | inl here ↦
+          elim (cases_lt hole.end (start + count)) [
+            | inl past ↦
+                elim (all hole.end (omega (arith, here.1)) past) [
+                  | inl past_it ↦ absurd (omega (arith, past_it.1))
+                  | inr later ↦ absurd (omega (arith, in_above (hole.end + 1) holes hole.end apart.2 later))
+                ]
+            | inr within ↦ (0, omega arith, here.0, omega (arith, here.0, here.1, within))
+          ]
       | inr later ↦
-        let above = in_above (hole.end + 1) holes start apart.2 later in
-        let found = in_one (hole.end + 1) holes start count apart.2 some (λ unit from below.
+          let above = in_above (hole.end + 1) holes start apart.2 later in
+          let found = in_one (hole.end + 1) holes start count apart.2 some (λ unit from below.
           elim (all unit from below) [
-            inl before_it ↦ absurd (omega (arith, before_it.1, above, from))
-            | inr then ↦ then ]) in
-        (suc found.0, omega (arith, found.1), found.2, found.3) ]
+            | inl before_it ↦ absurd (omega (arith, before_it.1, above, from))
+            | inr then ↦ then
+          ]) in
+          (suc found.0, omega (arith, found.1), found.2, found.3)
+    ]

@@ -25,7 +25,10 @@ pub fn take(holes: &mut Vec<Hole>, need: u32) -> Option<u32>
     if hole.end - hole.start == need {
         let _ = holes.remove(index);
     } else {
-        holes[index] = Hole { start: hole.start + need, end: hole.end };
+        holes[index] = Hole {
+            start: hole.start + need,
+            end: hole.end,
+        };
     }
     Some(hole.start)
 }
@@ -75,16 +78,25 @@ fn join(holes: &mut Vec<Hole>, index: usize, start: u32, end: u32)
 {
     let low = holes[index];
     if low.start == end {
-        holes[index] = Hole { start, end: low.end };
+        holes[index] = Hole {
+            start,
+            end: low.end,
+        };
         return;
     }
     if starts_by(holes, index + 1, end) {
         let high = holes[index + 1];
-        holes[index] = Hole { start: low.start, end: high.end };
+        holes[index] = Hole {
+            start: low.start,
+            end: high.end,
+        };
         let _ = holes.remove(index + 1);
         return;
     }
-    holes[index] = Hole { start: low.start, end };
+    holes[index] = Hole {
+        start: low.start,
+        end,
+    };
 }
 
 /// Whether there is a hole at a place of the list that starts at or before a unit.

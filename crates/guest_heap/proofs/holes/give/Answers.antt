@@ -10,7 +10,7 @@ returns-clause-gains c =
     let i = c.first_reaching-index.result in
     subst (λ (new : List Hole). Gains holes new c.args.start c.args.end) (sym c.in_ok-insert.ensures.items)
     (gain_alone holes i c.args.start c.args.end c.requires.apart
-      (subst (λ (xs : List Hole). i ≤ length xs) c.deref.ensures.value c.first_reaching-index.ensures.within)
-      (subst (λ (xs : List Hole). (k : ℕ) → k < i → end_of xs k < c.args.start) c.deref.ensures.value c.first_reaching-index.ensures.below)
-      c.requires.some
-      (subst (λ (xs : List Hole). i < length xs → c.args.end < start_of xs i) c.deref-2.ensures.value c.if-starts_by.ensures))
+    (subst (λ (xs : List Hole). i ≤ length xs) c.deref.ensures.value c.first_reaching-index.ensures.within)
+    (subst (λ (xs : List Hole). (k : ℕ) → k < i → end_of xs k < c.args.start) c.deref.ensures.value c.first_reaching-index.ensures.below)
+    c.requires.some
+    (subst (λ (xs : List Hole). i < length xs → c.args.end < start_of xs i) c.deref-2.ensures.value c.if-starts_by.ensures))

@@ -14,16 +14,16 @@ returns-then-starts_by c =
     let holes = c.args.holes.now.items in
     let within : c.args.index < length holes = omega (arith, c.args.holes.now.ok.0, c.requires.within) in
     let seen : (c.args.index + 1 < length holes) × (start_of holes (c.args.index + 1) ≤ c.args.end) =
-      subst (λ (xs : List Hole). (c.args.index + 1 < length xs) × (start_of xs (c.args.index + 1) ≤ c.args.end)) c.deref.ensures.value c.if-starts_by.ensures in
+    subst (λ (xs : List Hole). (c.args.index + 1 < length xs) × (start_of xs (c.args.index + 1) ≤ c.args.end)) c.deref.ensures.value c.if-starts_by.ensures in
     let low_start = read_start holes c.args.index c.index-low.result.now c.index-low.ensures within in
     let low_end = read_end holes c.args.index c.index-low.result.now c.index-low.ensures within in
     let touches : end_of holes c.args.index ≡ c.args.start =
-      touch holes c.args.index c.args.start c.args.end c.requires.apart within c.requires.some c.requires.reaches (omega (arith, c.requires.reached, low_start, c.if-low-end.false)) c.requires.taken in
+    touch holes c.args.index c.args.start c.args.end c.requires.apart within c.requires.some c.requires.reaches (omega (arith, c.requires.reached, low_start, c.if-low-end.false)) c.requires.taken in
     let touched = behind holes c.args.index (c.args.index + 1) c.args.start c.args.end c.requires.apart (omega arith) seen.0 touches seen.1 c.requires.taken in
     let high_start = read_start holes (c.args.index + 1) c.index-high.result.now c.index-high.ensures seen.0 in
     subst (λ (new : List Hole). Gains holes new c.args.start c.args.end) (sym c.remove.ensures.items)
     (gain_both holes c.args.index (c.args.index + 1) c.args.start c.args.end c.index-low.result.now c.index-high.result.now c.requires.apart (omega arith) seen.0
-      c.index-low.ensures c.index-high.ensures c.requires.some (sym low_end ∙ touches) (sym high_start ∙ touched))
+    c.index-low.ensures c.index-high.ensures c.requires.some (sym low_end ∙ touches) (sym high_start ∙ touched))
 
 pub returns : goal.returns
 returns c =
@@ -32,6 +32,6 @@ returns c =
     let low_start = read_start holes c.args.index c.index-low.result.now c.index-low.ensures within in
     let low_end = read_end holes c.args.index c.index-low.result.now c.index-low.ensures within in
     let touches : end_of holes c.args.index ≡ c.args.start =
-      touch holes c.args.index c.args.start c.args.end c.requires.apart within c.requires.some c.requires.reaches (omega (arith, c.requires.reached, low_start, c.if-low-end.false)) c.requires.taken in
+    touch holes c.args.index c.args.start c.args.end c.requires.apart within c.requires.some c.requires.reaches (omega (arith, c.requires.reached, low_start, c.if-low-end.false)) c.requires.taken in
     gain_high holes c.args.index c.args.start c.args.end c.index-low.result.now c.requires.apart within c.index-low.ensures c.requires.some (sym low_end ∙ touches)
-      (subst (λ (xs : List Hole). c.args.index + 1 < length xs → c.args.end < start_of xs (c.args.index + 1)) c.deref.ensures.value c.if-starts_by.ensures)
+    (subst (λ (xs : List Hole). c.args.index + 1 < length xs → c.args.end < start_of xs (c.args.index + 1)) c.deref.ensures.value c.if-starts_by.ensures)

@@ -7,7 +7,7 @@ use Rattle.guest_heap.proofs.holes.take.Goals as goal
 pub returns-in_err-index-clause-none : goal.returns-in_err-index-clause-none
 returns-in_err-index-clause-none c =
     rw c.from_residual.ensures (λ unit. no_place c.args.holes.now.items c.args.need unit c.requires.apart c.requires.some
-      (subst (λ (xs : List Hole). (k : ℕ) → k < length xs → room xs k < c.args.need) c.deref.ensures.value c.in_err-index.ensures.none))
+    (subst (λ (xs : List Hole). (k : ℕ) → k < length xs → room xs k < c.args.need) c.deref.ensures.value c.in_err-index.ensures.none))
 
 pub returns-then-hole-need-clause-all : goal.returns-then-hole-need-clause-all
 returns-then-hole-need-clause-all c =

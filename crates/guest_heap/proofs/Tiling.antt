@@ -1,11 +1,11 @@
 -- How holes and blocks tile the heap, as blocks are taken and given back.
-use Rattle.std.proofs.Common.{◌≡◌, ◌≢◌, ℕ, ◌+◌, ◌-◌, ◌*◌, ◌/◌, ◌%◌, ◌<◌, ◌≤◌, ◌⊎◌, inl, inr, List, [], ◌∷◌, length, get_or, set, Some, replicate, arith, refl, sym, ap, ◌∙◌, subst}
+use Rattle.std.proofs.Common.{◌≡◌, ◌≢◌, ℕ, ◌+◌, ◌-◌, ◌*◌, ◌/◌, ◌<◌, ◌≤◌, ◌⊎◌, inl, inr, List, [], ◌∷◌, length, get_or, set, replicate, arith, sym, ap, ◌∙◌, subst}
 use Rattle.std.proofs.lemmas.Bool.{cases_lt, cases_eq}
 use Rattle.std.proofs.lemmas.List.{length-set, length-replicate, get_or-set_same, get_or-set_other}
 use Rattle.guest_heap.specs.declared.holes.Hole.{Hole}
-use Rattle.guest_heap.specs.Blocks.{asked, IsLive, size_of}
-use Rattle.guest_heap.specs.FirstFit.{taken, Meet, IsPlace, IsFirstFit}
-use Rattle.guest_heap.specs.Holes.{IsApart, In, AllIn, Loses, Gains}
+use Rattle.guest_heap.specs.Blocks.{IsLive}
+use Rattle.guest_heap.specs.FirstFit.{IsPlace, IsFirstFit}
+use Rattle.guest_heap.specs.Holes.{In, AllIn, Loses, Gains}
 use Rattle.guest_heap.specs.Tiled.{units, Takes, IsTiled}
 use Rattle.guest_heap.proofs.Blocks.{asked_at, asked_live, size_of_some, zero_everywhere}
 

@@ -1,4 +1,4 @@
-use Rattle.std.specs.Prelude.{◌≡◌, ◌==◌, ℕ, zero, suc, ◌+◌, ◌-◌, ◌*◌, ◌/◌, ◌%◌, ◌&&◌, Bool, if◌then◌else◌, List, Option, Some, None, slice_index, nat_le}
+use Rattle.std.specs.Prelude.{◌≡◌, ◌==◌, ℕ, zero, suc, ◌-◌, ◌/◌, ◌%◌, ◌&&◌, if◌then◌else◌, List, Option, Some, None, slice_index, nat_le}
 
 -- a size in the table, where 0 says that no block starts there
 abbrev pub size_of : ℕ → Option ℕ

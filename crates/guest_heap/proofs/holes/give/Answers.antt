@@ -1,4 +1,4 @@
-use Rattle.std.proofs.Common.{ℕ, ◌≡◌, ◌<◌, ◌≤◌, length, arith, subst, sym, List}
+use Rattle.std.proofs.Common.{ℕ, ◌<◌, ◌≤◌, length, subst, sym, List}
 use Rattle.guest_heap.specs.declared.holes.Hole.{Hole}
 use Rattle.guest_heap.specs.Holes.{Gains, start_of, end_of}
 use Rattle.guest_heap.proofs.Edits.{gain_alone}

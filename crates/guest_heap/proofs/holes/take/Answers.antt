@@ -1,6 +1,6 @@
-use Rattle.std.proofs.Common.{ℕ, ◌≡◌, ◌+◌, ◌-◌, ◌<◌, ◌≤◌, length, arith, subst, sym, List}
+use Rattle.std.proofs.Common.{ℕ, ◌<◌, ◌≤◌, length, arith, subst, sym, List}
 use Rattle.guest_heap.specs.declared.holes.Hole.{Hole}
-use Rattle.guest_heap.specs.Holes.{Loses, AllIn, start_of, end_of, room}
+use Rattle.guest_heap.specs.Holes.{Loses, room}
 use Rattle.guest_heap.proofs.Edits.{lose_whole, lose_front, lowest_place, no_place, in_at, read_start, read_end}
 use Rattle.guest_heap.proofs.holes.take.Goals as goal
 

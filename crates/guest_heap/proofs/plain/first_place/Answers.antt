@@ -1,8 +1,8 @@
-use Rattle.std.proofs.Common.{◌≡◌, ℕ, ◌+◌, ◌-◌, ◌*◌, ◌/◌, ◌%◌, ◌<◌, ◌≤◌, inl, inr, List, length, get_or, arith, subst, sym, ◌∙◌}
+use Rattle.std.proofs.Common.{◌≡◌, ℕ, ◌+◌, ◌-◌, ◌*◌, ◌/◌, ◌<◌, ◌≤◌, inl, inr, List, length, get_or, arith, subst, sym, ◌∙◌}
 use Rattle.std.specs.List.{Contains}
 use Rattle.std.proofs.lemmas.Bool.{cases_lt, false≢true}
 use Rattle.std.proofs.lemmas.List.Elements.{Contains-get_or}
-use Rattle.guest_heap.specs.FirstFit.{IsPlace, IsFirstFit, Meet, taken}
+use Rattle.guest_heap.specs.FirstFit.{IsPlace, Meet, taken}
 use Rattle.guest_heap.proofs.plain.first_place.Goals.{else-at-div_ceil-le5242880-via-then-at-div_ceil-le5242880+else-is_clear, else-at-div_ceil-le5242880-via-else-at-div_ceil-le5242880}
 use Rattle.guest_heap.proofs.plain.first_place.Goals as goal
 
@@ -20,7 +20,7 @@ place_from_clear blocks size unit within clear = record {
   from = omega arith;
   within = within;
   clear = λ other other_size has meet.
-    clear has.0 (other, other_size) has.1 (subst (λ (block : ℕ × ℕ). Meet (4194304 + 16 * unit) (taken size) block.0 (taken block.1)) (sym has.2) meet);
+      clear has.0 (other, other_size) has.1 (subst (λ (block : ℕ × ℕ). Meet (4194304 + 16 * unit) (taken size) block.0 (taken block.1)) (sym has.2) meet);
 }
 
 clear_from_place : (blocks : List (ℕ × ℕ)) (size at : ℕ) → IsPlaceBeside blocks size at → IsClear blocks at size
@@ -38,22 +38,24 @@ pub returns-then-is_clear-clause-first : goal.returns-then-is_clear-clause-first
 returns-then-is_clear-clause-first c = record {
   place = place_from_clear c.args.blocks.now c.args.size c.loop-unit.unit (omega arith) (c.is_clear.ensures.0 c.if-is_clear.true);
   lowest = λ lower below place.
-    let low = place.from in
-    c.loop-unit.invariant ((lower - 4194304) / 16) (omega arith) (place_of_unit c.args.blocks.now c.args.size lower place);
+      let low = place.from in
+      c.loop-unit.invariant ((lower - 4194304) / 16) (omega arith) (place_of_unit c.args.blocks.now c.args.size lower place);
 }
 
 pub loop-unit-preserved : goal.loop-unit-preserved
 loop-unit-preserved c = λ k below place.
     elim (cases_lt k c.loop-unit.unit) [
-      inl early ↦ c.loop-unit.invariant k early place
+      | inl early ↦ c.loop-unit.invariant k early place
       | inr late ↦
-        let is : k ≡ c.loop-unit.unit = omega arith in
-        let here : IsPlaceBeside c.args.blocks.now c.args.size (4194304 + 16 * c.loop-unit.unit) = subst (λ (n : ℕ). IsPlaceBeside c.args.blocks.now c.args.size (4194304 + 16 * n)) is place in
-        let fits = here.within in
-        elim c.else-at-div_ceil-le5242880.branch [
-          else-at-div_ceil-le5242880-via-then-at-div_ceil-le5242880+else-is_clear w ↦
-            false≢true (sym w.if-is_clear.false ∙ w.is_clear.ensures.1 (clear_from_place c.args.blocks.now c.args.size (4194304 + 16 * c.loop-unit.unit) here))
-          | else-at-div_ceil-le5242880-via-else-at-div_ceil-le5242880 w ↦ omega arith ] ]
+          let is : k ≡ c.loop-unit.unit = omega arith in
+          let here : IsPlaceBeside c.args.blocks.now c.args.size (4194304 + 16 * c.loop-unit.unit) = subst (λ (n : ℕ). IsPlaceBeside c.args.blocks.now c.args.size (4194304 + 16 * n)) is place in
+          let fits = here.within in
+          elim c.else-at-div_ceil-le5242880.branch [
+            | else-at-div_ceil-le5242880-via-then-at-div_ceil-le5242880+else-is_clear w ↦
+                false≢true (sym w.if-is_clear.false ∙ w.is_clear.ensures.1 (clear_from_place c.args.blocks.now c.args.size (4194304 + 16 * c.loop-unit.unit) here))
+            | else-at-div_ceil-le5242880-via-else-at-div_ceil-le5242880 w ↦ omega arith
+          ]
+    ]
 
 pub returns-clause-none : goal.returns-clause-none
 returns-clause-none c = λ at place.

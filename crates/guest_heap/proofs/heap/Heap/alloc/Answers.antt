@@ -1,4 +1,4 @@
-use Rattle.std.proofs.Common.{◌≡◌, ℕ, ◌+◌, ◌-◌, ◌*◌, ◌/◌, ◌<◌, ◌≤◌, inl, inr, List, length, Some, arith, subst, sym, ap, ◌∙◌}
+use Rattle.std.proofs.Common.{◌≡◌, ℕ, ◌+◌, ◌-◌, ◌*◌, ◌/◌, ◌<◌, inr, List, length, arith, subst, sym, ap, ◌∙◌}
 use Rattle.guest_heap.specs.Blocks.{asked, IsLive, changed, size_of}
 use Rattle.guest_heap.specs.FirstFit.{IsPlace, IsFirstFit}
 use Rattle.guest_heap.specs.Holes.{AllIn}

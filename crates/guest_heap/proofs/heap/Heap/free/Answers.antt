@@ -1,4 +1,4 @@
-use Rattle.std.proofs.Common.{◌≡◌, ℕ, ◌+◌, ◌*◌, ◌/◌, ◌<◌, List, length, get_or, arith, sym, ap, subst, ◌∙◌, Some, None}
+use Rattle.std.proofs.Common.{◌≡◌, ℕ, ◌+◌, ◌<◌, List, length, get_or, arith, sym, ap, subst, ◌∙◌, Some, None}
 use Rattle.std.proofs.lemmas.List.{get_or_read}
 use Rattle.guest_heap.specs.Blocks.{asked, changed}
 use Rattle.guest_heap.specs.Tiled.{units}

@@ -1,4 +1,4 @@
-use Rattle.std.proofs.Common.{◌≡◌, ℕ, ◌+◌, ◌*◌, ◌<◌, List, length, arith, sym, ap, subst, ◌∙◌, Some, get_or}
+use Rattle.std.proofs.Common.{◌≡◌, ℕ, ◌<◌, List, length, arith, sym, ap, subst, ◌∙◌, Some, get_or}
 use Rattle.std.proofs.lemmas.List.{get_or_read}
 use Rattle.guest_heap.specs.Blocks.{asked}
 use Rattle.guest_heap.proofs.Blocks.{asked_at, size_of_some}

@@ -1,0 +1,4 @@
+pub mod Blocks
+pub mod FirstFit
+pub mod Holes
+pub mod Tiled

@@ -1,0 +1,23 @@
+use Rattle.std.specs.Prelude.{◌≡◌, ℕ, ◌+◌, ◌/◌, ◌<◌, ◌≤◌, List, length, slice_index}
+use Rattle.guest_heap.specs.declared.holes.Hole.{Hole}
+use Rattle.guest_heap.specs.Holes.{IsApart, In}
+
+-- how many units a block of an asked size takes
+abbrev pub units : ℕ → ℕ
+units size = (size + 15) / 16
+
+-- a block takes a unit
+pub record Takes (sizes : List ℕ) (block unit : ℕ) : Type 0 where
+  pub live : 0 < slice_index sizes block
+  pub from : block ≤ unit
+  pub before : unit < block + units (slice_index sizes block)
+
+-- each of the 65,536 units lies in one hole or is taken by one block, and the holes are apart
+pub record IsTiled (sizes : List ℕ) (holes : List Hole) : Type 0 where
+  pub all_units : length sizes ≡ 65536
+  pub apart : IsApart 0 holes
+  pub in_heap : (unit : ℕ) → In holes unit → unit < 65536
+  pub blocks_fit : (block unit : ℕ) → Takes sizes block unit → unit < 65536
+  pub one_block : (block other unit : ℕ) → Takes sizes block unit → Takes sizes other unit → block ≡ other
+  pub no_block : (block unit : ℕ) → In holes unit → Takes sizes block unit → ⊥
+  pub covered : (unit : ℕ) → unit < 65536 → ((block : ℕ) → Takes sizes block unit → ⊥) → In holes unit

@@ -1,4 +1,6 @@
+pub mod Before
 pub mod Edges
+pub mod Mosts
 pub mod Paths
 pub mod Places
 pub mod Sources

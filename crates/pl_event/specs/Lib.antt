@@ -3,8 +3,10 @@ pub mod Conflicts
 pub mod Edges
 pub mod Feeds
 pub mod Graph
+pub mod Heads
 pub mod Needs
 pub mod Numbers
+pub mod Packing
 pub mod Records
 pub mod Rows
 pub mod Valid

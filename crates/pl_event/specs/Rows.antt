@@ -2,6 +2,7 @@
 use Rattle.std.specs.Prelude.{ℕ, ◌≤◌, List, ◌∷◌, Option, None, replicate, slice_index_or, map, length, All}
 use Rattle.pl_event.specs.declared.log.Line.{Line}
 use Rattle.pl_event.specs.declared.lines.Row.{Row}
+use Rattle.pl_event.specs.Packing.{record_from}
 
 abbrev pub no_arcs : List (Option ℕ)
 no_arcs = replicate 8 None
@@ -11,7 +12,7 @@ abbrev pub arcs_at : List (List (Option ℕ)) → ℕ → List (Option ℕ)
 arcs_at arcs slot = slice_index_or (no_arcs ∷ arcs) slot no_arcs
 
 abbrev pub line_from : List (List (Option ℕ)) → Row → Line
-line_from arcs row = record { what = row.what; arcs = arcs_at arcs row.slot }
+line_from arcs row = record { what = record_from row.what; arcs = arcs_at arcs row.slot }
 
 abbrev pub lines_from : List (List (Option ℕ)) → List Row → List Line
 lines_from arcs rows = map (line_from arcs) rows

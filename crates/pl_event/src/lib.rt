@@ -8,15 +8,19 @@
 
 mod event;
 mod fed;
+mod feeds;
+mod heads;
 mod lines;
 mod log;
 mod order;
+mod packed;
 mod streams;
 #[cfg(test)]
 mod tests;
 
 pub use event::{Event, Kind, is_alert, valid_event};
 pub use fed::{Fed, Feed};
+pub use feeds::fed_of;
 pub use lines::Lines;
 pub use log::{Arcs, Line, Log, PageKind, PageRun, PageRuns, Point, Record};
 pub use order::log_paths;

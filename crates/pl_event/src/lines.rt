@@ -2,19 +2,20 @@ ghost use Rattle.std.specs.Prelude.{◌≡◌, ◌<◌, ◌≤◌, length};
 ghost use Rattle.pl_event.specs.Rows.{arcs_at};
 
 use crate::log::{Arcs, Line, Record};
+use crate::packed::{Packed, pack, unpack};
 use std::alloc::{AllocError, Global};
 use std::marker::Model;
 
 /// A record, and where its arcs stand: 0 for none, else one more than their place.
 #[derive(Clone, Copy)]
 pub struct Row {
-    what: Record,
+    what: Packed,
     slot: u32,
 }
 
 /// Lines, in order.
 ///
-/// Records stand side by side, and the arcs of the lines that have any stand apart, so a line without takes 24 bytes.
+/// Records stand side by side, and the arcs of the lines that have any stand apart, so a line without takes 16 bytes.
 #[derive(Drop)]
 pub struct Lines {
     rows: Vec<Row>,
@@ -81,7 +82,7 @@ impl Lines {
     {
         let Row { what, slot } = self.rows[i];
         Line {
-            what,
+            what: unpack(what),
             arcs: arcs_of(&self.arcs, slot),
         }
     }
@@ -92,7 +93,7 @@ impl Lines {
         requires { i < length self.now }
         ensures { (other : Line) → result ≡ (slice_index_or self.now i other).what }
     {
-        self.rows[i].what
+        unpack(self.rows[i].what)
     }
 
     /// One more record at the end, without arcs. Without memory the lines stay.
@@ -101,7 +102,10 @@ impl Lines {
         ensures ok { OnOk result (self.new ≡ self.old ++ record { what = what; arcs = replicate 8 None } ∷ []) }
         ensures err { OnErr result (self.new ≡ self.old) }
     {
-        self.rows.push(Row { what, slot: 0 })?;
+        self.rows.push(Row {
+            what: pack(what),
+            slot: 0,
+        })?;
         Ok(())
     }
 
@@ -117,7 +121,7 @@ impl Lines {
         self.rows.reserve(1)?;
         self.arcs.push(line.arcs)?;
         self.rows.push(Row {
-            what: line.what,
+            what: pack(line.what),
             slot: slot as u32,
         })?;
         Ok(())

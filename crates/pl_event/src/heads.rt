@@ -1,0 +1,155 @@
+ghost use Rattle.std.specs.Prelude.{◌≡◌, ℕ, ◌+◌, ◌-◌, ◌^◌, ◌<◌, ◌≤◌, List, slice_index, slice_index_or, Some};
+ghost use Rattle.pl_event.specs.declared.log.Line.{Line};
+ghost use Rattle.pl_event.specs.Numbers.{hart_of};
+ghost use Rattle.pl_event.specs.Records.{records_before};
+ghost use Rattle.pl_event.specs.Edges.{IsNotice, IsAfter, IsFlow};
+ghost use Rattle.pl_event.specs.Needs.{IsMost, need_of, needs_of};
+ghost use Rattle.pl_event.specs.Feeds.{fed_at};
+ghost use Rattle.pl_event.specs.Heads.{later};
+
+use crate::fed::Fed;
+use crate::log::{Arcs, Line, Point, Record};
+use crate::streams::record_hart;
+
+/// How far each hart of a log is: its records and events so far, and the notice that is its last record.
+#[derive(Drop)]
+pub struct Heads {
+    place: u32,
+    events: [u32; 8],
+    records: [u32; 8],
+    open: [Option<Point>; 8],
+}
+
+// The greater of two numbers that may be missing.
+fn later(a: Option<u32>, b: Option<u32>) -> Option<u32>
+    ensures { result ≡ later a b }
+{
+    match a {
+        None => b,
+        Some(x) => match b {
+            None => a,
+            Some(y) => Some(x.max(y)),
+        },
+    }
+}
+
+impl Heads {
+    ghost use Rattle.pl_event.specs.Heads.{Tells, IsNext};
+
+    /// Before the first line.
+    pub fn new() -> Heads
+        ensures { (lines : List Line) → Tells result lines 0 }
+    {
+        Heads {
+            place: 0,
+            events: [0; 8],
+            records: [0; 8],
+            open: [None; 8],
+        }
+    }
+
+    // The last record of hart u, if it is a notice of the next record of this hart.
+    fn notice(&self, hart: u8, u: u8) -> Option<u32>
+        requires hart { hart < 8 }
+        requires u { u < 8 }
+        requires few { slice_index self.now.records hart + 1 < 2 ^ 32 }
+        ensures { (harts : ℕ) (lines : List Line) (i : ℕ) (line : Line) → IsFlow harts lines → Tells self.now lines i → IsNext lines i hart line → IsMost (λ n. IsNotice lines u n hart (records_before hart lines i + 1)) result }
+    {
+        match self.open[u as usize] {
+            None => None,
+            Some(of) => {
+                if of.hart == hart && of.number == self.records[hart as usize] + 1 {
+                    Some(self.records[u as usize])
+                } else {
+                    None
+                }
+            }
+        }
+    }
+
+    // The record of hart u whose notice is the last record of this hart.
+    fn noticed(&self, hart: u8, u: u8) -> Option<u32>
+        requires hart { hart < 8 }
+        requires u { u < 8 }
+        ensures { (harts : ℕ) (lines : List Line) (i : ℕ) (line : Line) → IsFlow harts lines → Tells self.now lines i → IsNext lines i hart line → IsMost (λ n. IsAfter lines u n hart (records_before hart lines i + 1)) result }
+    {
+        match self.open[hart as usize] {
+            None => None,
+            Some(of) => { if of.hart == u { Some(of.number) } else { None } }
+        }
+    }
+
+    // What the next line, of this hart, needs of hart u.
+    fn need(&self, line: &Line, hart: u8, u: u8) -> Option<u32>
+        requires hart { hart < 8 }
+        requires u { u < 8 }
+        requires few { slice_index self.now.records hart + 1 < 2 ^ 32 }
+        ensures { (harts : ℕ) (lines : List Line) (i : ℕ) → IsFlow harts lines → Tells self.now lines i → IsNext lines i hart line.now → result ≡ need_of lines u hart (records_before hart lines i + 1) }
+    {
+        later(
+            line.arcs.get(u),
+            later(self.notice(hart, u), self.noticed(hart, u)),
+        )
+    }
+
+    // What the next line, of this hart, needs of each hart.
+    fn needs(&self, line: &Line, hart: u8) -> Arcs
+        requires hart { hart < 8 }
+        requires few { slice_index self.now.records hart + 1 < 2 ^ 32 }
+        ensures { (harts : ℕ) (lines : List Line) (i : ℕ) → IsFlow harts lines → Tells self.now lines i → IsNext lines i hart line.now → result ≡ needs_of lines hart (records_before hart lines i + 1) }
+    {
+        let mut needs = Arcs::none();
+        for u in 0..8u8 {
+            needs.set(u, self.need(line, hart, u));
+        }
+        needs
+    }
+
+    /// The next line as a worker takes it.
+    pub fn fed(&self, line: &Line) -> Fed
+        requires hart { hart_of line.now.what < 8 }
+        requires records { slice_index self.now.records (hart_of line.now.what) + 1 < 2 ^ 32 }
+        requires place { self.now.place + 1 < 2 ^ 32 }
+        requires events { slice_index self.now.events (hart_of line.now.what) + 1 < 2 ^ 32 }
+        ensures { (harts : ℕ) (lines : List Line) (i : ℕ) → IsFlow harts lines → Tells self.now lines i → IsNext lines i (hart_of line.now.what) line.now → result ≡ fed_at lines i line.now }
+    {
+        let hart = record_hart(&line.what);
+        let needs = self.needs(line, hart);
+        match line.what {
+            Record::Event(_) => Fed {
+                place: self.place + 1,
+                event_number: self.events[hart as usize] + 1,
+                line: *line,
+                needs,
+            },
+            Record::Notice { .. } => Fed {
+                place: 0,
+                event_number: 0,
+                line: *line,
+                needs,
+            },
+        }
+    }
+
+    /// Takes the next line.
+    pub fn pass(&mut self, line: &Line)
+        requires hart { hart_of line.now.what < 8 }
+        requires records { slice_index self.old.records (hart_of line.now.what) + 1 < 2 ^ 32 }
+        requires place { self.old.place + 1 < 2 ^ 32 }
+        requires events { slice_index self.old.events (hart_of line.now.what) + 1 < 2 ^ 32 }
+        ensures { (harts : ℕ) (lines : List Line) (i : ℕ) → IsFlow harts lines → Tells self.old lines i → IsNext lines i (hart_of line.now.what) line.now → Tells self.new lines (i + 1) }
+    {
+        let hart = record_hart(&line.what) as usize;
+        self.records[hart] += 1;
+        match line.what {
+            Record::Event(_) => {
+                self.place += 1;
+                self.events[hart] += 1;
+                self.open[hart] = None;
+            }
+            Record::Notice { hart: _, of } => {
+                self.open[hart] = Some(of);
+            }
+        }
+    }
+}

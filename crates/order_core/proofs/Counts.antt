@@ -49,7 +49,7 @@ rank_counts h f (x ∷ xs) (suc p) t =
     let u : bit (f x) ≡ bit (is_write_of h x) = ap bit ((t 0 x refl).0 (omega arith)) in
     let z : rank h xs p ≡ count_if f xs = rank_counts h f xs p (λ q b at. ((λ l. (t (suc q) b at).0 (omega arith)), λ l. (t (suc q) b at).1 (omega arith))) in omega arith
 
-before_true : (h n i : ℕ) (a : Operation) → (a.number < n) ⊎ ((a.number ≡ n) × (a.op < i)) → is_before h n i a ≡ is_write_of h a
+pub before_true : (h n i : ℕ) (a : Operation) → (a.number < n) ⊎ ((a.number ≡ n) × (a.op < i)) → is_before h n i a ≡ is_write_of h a
 before_true h n i a o = and_one (is_write_of h a) (ltb a.number n || (eqb a.number n && ltb a.op i)) (test o)
   where
     and_one : (b t : Bool) → t ≡ true → (b && t) ≡ b
@@ -59,7 +59,7 @@ before_true h n i a o = and_one (is_write_of h a) (ltb a.number n || (eqb a.numb
     test : (a.number < n) ⊎ ((a.number ≡ n) × (a.op < i)) → (ltb a.number n || (eqb a.number n && ltb a.op i)) ≡ true
     test o = grind (arith, nat_tests)
 
-before_false : (h n i : ℕ) (a : Operation) → ((a.number < n) ⊎ ((a.number ≡ n) × (a.op < i)) → ⊥) → is_before h n i a ≡ false
+pub before_false : (h n i : ℕ) (a : Operation) → ((a.number < n) ⊎ ((a.number ≡ n) × (a.op < i)) → ⊥) → is_before h n i a ≡ false
 before_false h n i a o = and_none (is_write_of h a) (ltb a.number n || (eqb a.number n && ltb a.op i)) (test o)
   where
     and_none : (b t : Bool) → t ≡ false → (b && t) ≡ false
@@ -104,7 +104,7 @@ module _ (c : Course) (names : InOrder c) (short : (p : ℕ) (a : Operation) →
           (λ ne. no_write b (other b ne))
 
   -- two places with one name are one
-  once : (p q : ℕ) (a b : Operation) → At c p a → At c q b → a.hart ≡ b.hart → a.number ≡ b.number → a.op ≡ b.op → p ≡ q
+  pub once : (p q : ℕ) (a b : Operation) → At c p a → At c q b → a.hart ≡ b.hart → a.number ≡ b.number → a.op ≡ b.op → p ≡ q
   once p q a b x y h n i = dite (ℕ_discrete p q) (λ e. e) (λ ne. absurd (dite (dec_le p q)
       (λ l. ⊎_elim (λ (t : a.number < b.number). omega arith) (λ (t : (a.number ≡ b.number) × (a.op < b.op)). let u : a.op < b.op = t.1 in omega arith) (names.order p q a b x y (omega arith) h))
       (λ l. ⊎_elim (λ (t : b.number < a.number). omega arith) (λ (t : (b.number ≡ a.number) × (b.op < a.op)). let u : b.op < a.op = t.1 in omega arith) (names.order q p b a y x (lt_of_not-le l) (sym h)))))

@@ -155,7 +155,7 @@ module _ (c : Course) (law : IsLawful c) where
       (λ h low. let top : k.progress h ≤ length_of c h = (st.1.passed h).0 in dite (ℕ_discrete (k.progress h) (length_of c h)) inl (λ n. inr (let o : k.progress h ≡ length_of c h → ⊥ = n in omega arith)))))
 
   -- f with its own value at h is f
-  put_same : {A : Type 0} (f : ℕ → A) (h : ℕ) (x : A) → x ≡ f h → put f h x ≡ f
+  pub put_same : {A : Type 0} (f : ℕ → A) (h : ℕ) (x : A) → x ≡ f h → put f h x ≡ f
   put_same f h x e = λ i u. at u i
     where
       at : (u : ℕ) → put f h x u ≡ f u

@@ -4,5 +4,9 @@ pub mod Course
 pub mod Lanes
 pub mod Lawful
 pub mod Lists
+pub mod Needs
+pub mod Outcomes
+pub mod Places
 pub mod Runs
 pub mod Shapes
+pub mod States

@@ -7,19 +7,36 @@
 //! performed where its rank among its hart's writes is below that count, so what a word holds is what the performed
 //! writes leave there, lane by lane. Everything rests on one fact: where the needs of a record were seen and a path
 //! leads to it from another hart, that hart's progress word is not below the path's beginning.
+//!
+//! `run_core` runs a list of steps. For each hart it keeps the place of its next write and how many records have needs
+//! that it has seen, so that a step is judged by places, and the plan is passed once.
 #![tactic(auto)]
 
 mod course;
+mod lanes;
 mod laws;
 mod list_plan;
 mod lists;
+mod moves;
+mod needs;
+mod opening;
+mod place;
 mod plan;
 mod record_plan;
+mod refused;
+mod run;
+mod seek;
+mod state;
 mod steps;
+#[cfg(test)]
+mod tests;
 
 pub use course::{Course, Op, Operation};
 pub use laws::{core_is_sequential, late_reads, never_stuck};
 pub use list_plan::ListPlan;
 pub use plan::{Plan, PlanOps};
 pub use record_plan::RecordPlan;
+pub use refused::CoreRefused;
+pub use run::run_core;
+pub use state::CoreState;
 pub use steps::{Act, CoreStep};

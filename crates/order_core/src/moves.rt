@@ -1,0 +1,182 @@
+ghost use Rattle.std.specs.Prelude.{◌≡◌, ℕ, ◌+◌, ◌<◌, ◌≤◌, ◌↔◌, ◌^◌, true, false, IsTrue, ◌⊎◌, None, Some, IfSome, length, slice_get};
+ghost use Rattle.order_core.specs.declared.course.Op.{Op};
+ghost use Rattle.order_core.specs.declared.course.Operation.{Operation};
+ghost use Rattle.order_core.specs.declared.steps.Act.TheVariants.{See, Advertise, Perform};
+ghost use Rattle.order_core.specs.Course.{course_of, length_of, At};
+ghost use Rattle.order_core.specs.Lawful.{IsName};
+ghost use Rattle.order_core.specs.Places.{place, ClashesBetween};
+ghost use Rattle.order_core.specs.Runs.{IsAllowed, Makes};
+ghost use Rattle.order_core.specs.States.{core_of, Fits};
+
+use crate::course::Op;
+use crate::lanes::put_lanes;
+use crate::needs::met_up_to;
+use crate::place::{Place, is_earlier, is_same};
+use crate::plan::PlanOps;
+use crate::seek::{has_clash, seek};
+use crate::state::{CoreState, HartState};
+use crate::steps::{Act, CoreStep};
+
+// A hart sees another.
+fn see<P: PlanOps>(plan: &P, state: &mut CoreState, hart: u8, of: u8) -> bool
+    requires fits { Fits (course_of (P.log plan.now) (P.opening plan.now) (P.operations plan.now)) state.old }
+    ensures fits { result ≡ true → Fits (course_of (P.log plan.now) (P.opening plan.now) (P.operations plan.now)) state.new }
+    ensures made { result ≡ true → Makes (course_of (P.log plan.now) (P.opening plan.now) (P.operations plan.now)) (core_of state.old) hart (See of) (core_of state.new) }
+    ensures refused { result ≡ false → IsAllowed (course_of (P.log plan.now) (P.opening plan.now) (P.operations plan.now)) (core_of state.old) hart (See of) → ⊥ }
+{
+    if plan.harts() <= hart || plan.harts() <= of || hart == of {
+        return false;
+    }
+    let number = state.harts[of as usize].progress;
+    let mut own = state.harts[hart as usize];
+    own.seen[of as usize] = number;
+    state.harts[hart as usize] = own;
+    true
+}
+
+// A hart sets its progress word.
+fn advertise<P: PlanOps>(plan: &P, state: &mut CoreState, hart: u8, upto: u32) -> bool
+    requires fits { Fits (course_of (P.log plan.now) (P.opening plan.now) (P.operations plan.now)) state.old }
+    ensures fits { result ≡ true → Fits (course_of (P.log plan.now) (P.opening plan.now) (P.operations plan.now)) state.new }
+    ensures made { result ≡ true → Makes (course_of (P.log plan.now) (P.opening plan.now) (P.operations plan.now)) (core_of state.old) hart (Advertise upto) (core_of state.new) }
+    ensures refused { result ≡ false → IsAllowed (course_of (P.log plan.now) (P.opening plan.now) (P.operations plan.now)) (core_of state.old) hart (Advertise upto) → ⊥ }
+{
+    if plan.harts() <= hart {
+        return false;
+    }
+    let own = state.harts[hart as usize];
+    if upto < own.progress || own.next.number <= upto {
+        return false;
+    }
+    let met = met_up_to(plan, hart, &own.seen, own.met, upto);
+    if met < upto {
+        return false;
+    }
+    state.harts[hart as usize] = HartState {
+        progress: upto,
+        met,
+        ..own
+    };
+    true
+}
+
+// The operation of this name, where the run has one.
+fn named<P: PlanOps>(plan: &P, hart: u8, number: u32, op: u32) -> Option<Op>
+    ensures none { result ≡ None → (p : ℕ) (a : Operation) → At (course_of (P.log plan.now) (P.opening plan.now) (P.operations plan.now)) p a → IsName hart number op a → ⊥ }
+    ensures some { IfSome result (λ o. (hart < (P.log plan.now).harts) × (1 ≤ number) × (number ≤ length_of (course_of (P.log plan.now) (P.opening plan.now) (P.operations plan.now)) hart) × (slice_get (P.operations plan.now hart number) op ≡ Some o)) }
+{
+    if plan.harts() <= hart || number == 0 || plan.len(hart) < number {
+        return None;
+    }
+    plan.op(hart, number, op)
+}
+
+// A hart performs a write of its stream.
+fn write<P: PlanOps>(plan: &P, state: &mut CoreState, hart: u8, at: Place, op: Op) -> bool
+    requires fits { Fits (course_of (P.log plan.now) (P.opening plan.now) (P.operations plan.now)) state.old }
+    requires hart { hart < (P.log plan.now).harts }
+    requires from_one { 1 ≤ at.number }
+    requires number { at.number ≤ length_of (course_of (P.log plan.now) (P.opening plan.now) (P.operations plan.now)) hart }
+    requires op { slice_get (P.operations plan.now hart at.number) at.op ≡ Some op }
+    requires is_write { op.write ≡ true }
+    requires few { (core_of state.old).written hart < 4294967295 }
+    ensures fits { result ≡ true → Fits (course_of (P.log plan.now) (P.opening plan.now) (P.operations plan.now)) state.new }
+    ensures made { result ≡ true → Makes (course_of (P.log plan.now) (P.opening plan.now) (P.operations plan.now)) (core_of state.old) hart (Perform at.number at.op) (core_of state.new) }
+    ensures refused { result ≡ false → IsAllowed (course_of (P.log plan.now) (P.opening plan.now) (P.operations plan.now)) (core_of state.old) hart (Perform at.number at.op) → ⊥ }
+{
+    let own = state.harts[hart as usize];
+    if !is_same(at, own.next) {
+        return false;
+    }
+    let met = met_up_to(plan, hart, &own.seen, own.met, at.number);
+    if met < at.number {
+        return false;
+    }
+    let word = state.words[op.word as usize];
+    state.words[op.word as usize] = put_lanes(word, op);
+    state.harts[hart as usize] = HartState {
+        written: own.written + 1,
+        next: seek(
+            plan,
+            hart,
+            Place {
+                number: at.number,
+                op: at.op + 1,
+            },
+        ),
+        met,
+        ..own
+    };
+    true
+}
+
+// Whether a write that clashes with the hart's read stands between the read and the next write.
+fn is_overtaken<P: PlanOps>(plan: &P, hart: u8, next: Place, at: Place, read: Op) -> bool
+    requires hart { hart < (P.log plan.now).harts }
+    requires next_from { 1 ≤ next.number }
+    requires next { place next.number next.op ≤ place (length_of (course_of (P.log plan.now) (P.opening plan.now) (P.operations plan.now)) hart + 1) 0 }
+    requires from_one { 1 ≤ at.number }
+    requires within { place at.number at.op ≤ place (length_of (course_of (P.log plan.now) (P.opening plan.now) (P.operations plan.now)) hart + 1) 0 }
+    requires lanes { read.lanes ≤ 15 }
+    ensures { IsTrue result ↔ (ClashesBetween (course_of (P.log plan.now) (P.opening plan.now) (P.operations plan.now)) hart read (place at.number at.op) (place next.number next.op) ⊎ ClashesBetween (course_of (P.log plan.now) (P.opening plan.now) (P.operations plan.now)) hart read (place next.number next.op) (place at.number at.op)) }
+{
+    if is_earlier(at, next) {
+        return has_clash(plan, hart, at, next, read);
+    }
+    has_clash(plan, hart, next, at, read)
+}
+
+// A hart performs a read of its stream.
+fn read<P: PlanOps>(plan: &P, state: &mut CoreState, hart: u8, at: Place, op: Op) -> bool
+    requires fits { Fits (course_of (P.log plan.now) (P.opening plan.now) (P.operations plan.now)) state.old }
+    requires hart { hart < (P.log plan.now).harts }
+    requires from_one { 1 ≤ at.number }
+    requires number { at.number ≤ length_of (course_of (P.log plan.now) (P.opening plan.now) (P.operations plan.now)) hart }
+    requires op { slice_get (P.operations plan.now hart at.number) at.op ≡ Some op }
+    requires is_read { op.write ≡ false }
+    ensures fits { result ≡ true → Fits (course_of (P.log plan.now) (P.opening plan.now) (P.operations plan.now)) state.new }
+    ensures made { result ≡ true → Makes (course_of (P.log plan.now) (P.opening plan.now) (P.operations plan.now)) (core_of state.old) hart (Perform at.number at.op) (core_of state.new) }
+    ensures refused { result ≡ false → IsAllowed (course_of (P.log plan.now) (P.opening plan.now) (P.operations plan.now)) (core_of state.old) hart (Perform at.number at.op) → ⊥ }
+{
+    let own = state.harts[hart as usize];
+    if at.number <= own.progress {
+        return false;
+    }
+    let met = met_up_to(plan, hart, &own.seen, own.met, at.number);
+    if met < at.number || is_overtaken(plan, hart, own.next, at, op) {
+        return false;
+    }
+    state.harts[hart as usize] = HartState { met, ..own };
+    true
+}
+
+// A hart performs an operation of its stream.
+fn perform<P: PlanOps>(plan: &P, state: &mut CoreState, hart: u8, number: u32, op: u32) -> bool
+    requires fits { Fits (course_of (P.log plan.now) (P.opening plan.now) (P.operations plan.now)) state.old }
+    requires few { (core_of state.old).written hart < 4294967295 }
+    ensures fits { result ≡ true → Fits (course_of (P.log plan.now) (P.opening plan.now) (P.operations plan.now)) state.new }
+    ensures made { result ≡ true → Makes (course_of (P.log plan.now) (P.opening plan.now) (P.operations plan.now)) (core_of state.old) hart (Perform number op) (core_of state.new) }
+    ensures refused { result ≡ false → IsAllowed (course_of (P.log plan.now) (P.opening plan.now) (P.operations plan.now)) (core_of state.old) hart (Perform number op) → ⊥ }
+{
+    let at = Place { number, op };
+    match named(plan, hart, number, op) {
+        None => false,
+        Some(found) if found.write => write(plan, state, hart, at, found),
+        Some(found) => read(plan, state, hart, at, found),
+    }
+}
+
+// Makes the step where it is allowed, and says whether it was.
+pub(crate) fn make<P: PlanOps>(plan: &P, state: &mut CoreState, step: CoreStep) -> bool
+    requires fits { Fits (course_of (P.log plan.now) (P.opening plan.now) (P.operations plan.now)) state.old }
+    requires few { (core_of state.old).written step.hart < 4294967295 }
+    ensures fits { result ≡ true → Fits (course_of (P.log plan.now) (P.opening plan.now) (P.operations plan.now)) state.new }
+    ensures made { result ≡ true → Makes (course_of (P.log plan.now) (P.opening plan.now) (P.operations plan.now)) (core_of state.old) step.hart step.act (core_of state.new) }
+    ensures refused { result ≡ false → IsAllowed (course_of (P.log plan.now) (P.opening plan.now) (P.operations plan.now)) (core_of state.old) step.hart step.act → ⊥ }
+{
+    match step.act {
+        Act::See { of } => see(plan, state, step.hart, of),
+        Act::Advertise { upto } => advertise(plan, state, step.hart, upto),
+        Act::Perform { number, op } => perform(plan, state, step.hart, number, op),
+    }
+}

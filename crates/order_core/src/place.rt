@@ -1,0 +1,23 @@
+ghost use Rattle.std.specs.Prelude.{◌≡◌, ◌+◌, ◌<◌, ◌↔◌, IsTrue, IsSome};
+ghost use Rattle.order_core.specs.Places.{place};
+
+/// Where an operation stands in its hart's stream: operation `op`, from 0, of record `number`, from 1.
+#[derive(Clone, Copy, Debug)]
+pub(crate) struct Place {
+    pub(crate) number: u32,
+    pub(crate) op: u32,
+}
+
+// Whether the first place stands before the second.
+pub(crate) fn is_earlier(a: Place, b: Place) -> bool
+    ensures { IsTrue result ↔ (place a.number a.op < place b.number b.op) }
+{
+    a.number < b.number || (a.number == b.number && a.op < b.op)
+}
+
+// Whether they are one place.
+pub(crate) fn is_same(a: Place, b: Place) -> bool
+    ensures { IsTrue result ↔ (place a.number a.op ≡ place b.number b.op) }
+{
+    a.number == b.number && a.op == b.op
+}

@@ -1,0 +1,101 @@
+//! TaintCheck: reports each register with bytes from outside that a jump or a kernel call uses.
+//!
+//! It looks at bit 2 of a nibble alone, which says that the byte came from outside. The mark goes with each copy: from
+//! bytes to a register's mask by a load, from two masks to all of a third by an operation, and back by a store.
+#![tactic(auto)]
+
+ghost use Rattle.taintcheck.specs.TaintRules.{taint_rules};
+
+#[cfg(test)]
+mod tests;
+
+use lifeguard::{CheckedRegs, Lifeguard, Name, RangeKind};
+use pl_event::{Kind, PageKind};
+
+/// Reports uses of bytes from outside.
+#[derive(Clone, Copy, Debug, PartialEq, Eq)]
+pub struct TaintCheck;
+
+impl Lifeguard for TaintCheck {
+    ghost use Rattle.taintcheck.specs.Laws.{taint_lawful};
+
+    ghost rules = { λ _. taint_rules };
+
+    ghost lawful = { λ _. taint_lawful };
+
+    #[inline]
+    fn name(&self) -> Name {
+        Name::Taint
+    }
+
+    #[inline]
+    fn page_state(&self, _kind: PageKind) -> u8 {
+        0
+    }
+
+    #[inline]
+    fn load_bit(&self, nibble: u8) -> bool {
+        nibble / 4 % 2 == 1
+    }
+
+    #[inline]
+    fn store_nibble(&self, _old: u8, bit: bool) -> u8 {
+        if bit { 4 } else { 0 }
+    }
+
+    #[inline]
+    fn range_state(&self, kind: RangeKind, old: u8) -> u8 {
+        match kind {
+            RangeKind::Al | RangeKind::Fr => old,
+            RangeKind::Rd => 4,
+        }
+    }
+
+    #[inline]
+    fn bad_access(&self, _nibble: u8) -> bool {
+        false
+    }
+
+    #[inline]
+    fn bad_value(&self, _nibble: u8) -> bool {
+        false
+    }
+
+    /// A kernel call has its number in register 17 and its arguments from register 10 on.
+    #[inline]
+    fn checked(&self, kind: &Kind) -> CheckedRegs {
+        match *kind {
+            Kind::Jr { rs, .. } => CheckedRegs {
+                count: 1,
+                regs: [rs, 0, 0],
+            },
+            Kind::Al { .. } | Kind::Fr { .. } | Kind::Bf { .. } | Kind::Ex => CheckedRegs {
+                count: 2,
+                regs: [10, 17, 0],
+            },
+            Kind::Mp { .. } | Kind::Um { .. } => CheckedRegs {
+                count: 3,
+                regs: [10, 11, 17],
+            },
+            Kind::Rd { .. } | Kind::Wr { .. } => CheckedRegs {
+                count: 3,
+                regs: [11, 12, 17],
+            },
+            Kind::Ld { .. }
+            | Kind::St { .. }
+            | Kind::Op { .. }
+            | Kind::Mv { .. }
+            | Kind::Im { .. }
+            | Kind::Br { .. }
+            | Kind::Ft { .. } => CheckedRegs {
+                count: 0,
+                regs: [0; 3],
+            },
+        }
+    }
+
+    #[inline]
+    fn joins(&self, a: u8, b: u8) -> u8 {
+        if a == 0 && b == 0 { 0 } else { 15 }
+    }
+}

@@ -1,0 +1,4 @@
+pub mod EventLemmas
+pub mod Going
+pub mod Lists
+pub mod Telling

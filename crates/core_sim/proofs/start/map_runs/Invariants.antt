@@ -1,0 +1,6 @@
+use Rattle.std.proofs.Common.{drop}
+use Rattle.core_sim.proofs.Starts.{Going}
+use Rattle.core_sim.proofs.start.map_runs.Given as goal
+
+abbrev pub invariant-loop-run : goal.invariant-loop-run
+invariant-loop-run l = Going l.initial.mem l.mem l.runs (drop l.run-index l.runs)

@@ -1,0 +1,12 @@
+pub mod Valid
+pub mod Harts
+pub mod Schedules
+pub mod Start
+pub mod Events
+pub mod Steps
+pub mod Entries
+pub mod Runs
+pub mod Mapping
+pub mod Doing
+pub mod Image
+pub mod Stands

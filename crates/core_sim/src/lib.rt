@@ -1,0 +1,31 @@
+//! A guest to be run, and the machine that runs it: harts, a schedule and steps over the kernel's memory.
+//!
+//! A job is plain data. What makes it a valid one is said once, in the definition of a valid job, and whatever is
+//! made of a job asks for that.
+//!
+//! A machine keeps the text as a slice of words, the kernel, the harts side by side and the turn that goes on. A step
+//! fetches one word by its pc and does it whole; a load or a store is one look-up of memory. Contracts say which
+//! front of the job's one run a machine stands for: a run is a list of entries, in which memory, blocks, harts and
+//! turns are looked up.
+#![tactic(auto)]
+
+mod group;
+mod hart;
+mod job;
+mod kinds;
+mod laws;
+mod machine;
+#[cfg(test)]
+mod run_tests;
+mod start;
+mod step;
+#[cfg(test)]
+mod tests;
+mod turn;
+
+pub use group::{EventGroup, StepOut};
+pub use hart::HartEnd;
+pub use job::{Bytes, Item, Items, Job, Schedule, Words};
+pub use laws::{one_run, valid_events};
+pub use machine::Machine;
+pub use start::start_pages;

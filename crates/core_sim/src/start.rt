@@ -1,0 +1,102 @@
+ghost use Rattle.std.specs.Prelude.{◌≡◌, ◌≤◌, All, IfOk, OnOk};
+ghost use Rattle.core_sim.specs.Valid.{IsValidJob};
+ghost use Rattle.core_sim.specs.Start.{start_runs, pages_of, text_bytes};
+ghost use Rattle.core_sim.specs.Mapping.{IsStartMemory, MapsRun, MapsRuns};
+
+use crate::job::Job;
+use guest_mem::PagedMem;
+use pl_base::NoMemory;
+use pl_event::{PageKind, PageRun};
+use std::alloc::Global;
+
+/// The runs of pages that are mapped before the first step: the text, the data if there are any, the heap, the stacks.
+///
+/// # Errors
+///
+/// `NoMemory` where none was left for the list.
+pub fn start_pages(alloc: Global, job: &Job) -> Result<Vec<PageRun>, NoMemory>
+    requires { IsValidJob job.now }
+    ensures { IfOk result (λ runs. runs.items ≡ start_runs job.now) }
+{
+    let mut runs = Vec::with_capacity(alloc, 4)?;
+    runs.push(PageRun {
+        first: 16,
+        count: page_count(4 * job.words.as_slice().len()),
+        kind: PageKind::Data,
+    })?;
+    if !job.data_bytes.as_slice().is_empty() {
+        runs.push(PageRun {
+            first: 256,
+            count: page_count(job.data_bytes.as_slice().len()),
+            kind: PageKind::Data,
+        })?;
+    }
+    runs.push(PageRun {
+        first: 1024,
+        count: 256,
+        kind: PageKind::Heap,
+    })?;
+    runs.push(PageRun {
+        first: 3840,
+        count: u16::from(job.harts) * 4,
+        kind: PageKind::Stack,
+    })?;
+    Ok(runs)
+}
+
+/// How many pages so many bytes take.
+fn page_count(bytes: usize) -> u16
+    requires { bytes ≤ 262144 }
+    ensures { result ≡ pages_of bytes }
+{
+    bytes.div_ceil(4096) as u16
+}
+
+/// The memory at the start: zeros, the text and the data.
+pub fn start_memory(alloc: Global, job: &Job) -> Result<PagedMem, NoMemory>
+    requires { IsValidJob job.now }
+    ensures { IfOk result (IsStartMemory job.now) }
+{
+    let text = text_bytes(alloc, job.words.as_slice())?;
+    let runs = start_pages(alloc, job)?;
+    let mut mem = PagedMem::new(alloc)?;
+    map_run(&mut mem, runs[0], true)?;
+    map_runs(&mut mem, &runs[1..])?;
+    mem.fill(0x1_0000, &text);
+    mem.fill(0x10_0000, job.data_bytes.as_slice());
+    Ok(mem)
+}
+
+/// Maps runs of pages that are no text.
+fn map_runs(mem: &mut PagedMem, runs: &[PageRun]) -> Result<(), NoMemory>
+    requires some { All (λ run. 1 ≤ run.count) runs.now }
+    ensures { OnOk result (MapsRuns mem.old mem.new runs.now) }
+{
+    for run in runs {
+        map_run(mem, *run, false)?;
+    }
+    Ok(())
+}
+
+/// Maps a run of pages, of which none is mapped yet.
+fn map_run(mem: &mut PagedMem, run: PageRun, text: bool) -> Result<(), NoMemory>
+    requires { 1 ≤ run.count }
+    ensures { OnOk result (MapsRun mem.old mem.new run text) }
+{
+    match mem.map(run.first, run.count, text) {
+        Ok(()) => Ok(()),
+        // The runs of a valid job lie apart and in range, so that no other cause comes.
+        Err(_) => Err(NoMemory),
+    }
+}
+
+/// The bytes of words, each with its lowest byte first.
+fn text_bytes(alloc: Global, words: &[u32]) -> Result<Vec<u8>, NoMemory>
+    ensures { IfOk result (λ bytes. bytes.items ≡ text_bytes words.now) }
+{
+    let mut bytes = Vec::new(alloc);
+    for word in words {
+        bytes.extend_from_slice(&word.to_le_bytes())?;
+    }
+    Ok(bytes)
+}

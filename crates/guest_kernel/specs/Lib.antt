@@ -1,0 +1,5 @@
+pub mod Image
+pub mod State
+pub mod Calls
+pub mod Lending
+pub mod Moves

@@ -1,0 +1,263 @@
+ghost use Rattle.std.specs.Prelude.{◌≡◌, ◌^◌, ◌≤◌, ◌++◌, length, take, drop, min, IfOk, OnErr, IfSome, IfNone};
+ghost use Rattle.guest_mem.specs.Bytes.{AllMapped};
+ghost use Rattle.guest_mem.specs.Memory.{bytes};
+ghost use Rattle.guest_kernel.specs.Moves.{HoldsAt};
+ghost use Rattle.guest_kernel.specs.Calls.{call_of, IsAnswer, alloc_call, free_call, map_call, unmap_call, read_call, write_call, failure, moved};
+ghost use Rattle.guest_kernel.specs.State.{state_of, started, after};
+ghost use Rattle.guest_kernel.specs.Lending.{LendsMemory};
+ghost use Rattle.std.specs.Borrow.{sem};
+
+use crate::call::{CallArgs, KernelStep};
+use crate::pages::{Pages, map_pages};
+use guest_heap::Heap;
+use guest_mem::{MapFault, PagedMem};
+use pl_base::NoMemory;
+use pl_event::Kind;
+use std::alloc::Global;
+use std::marker::Model;
+
+/// How many bytes one call moves at most.
+const MOST_MOVED: u32 = 65_536;
+
+/// How many bytes the output has at most: 1 MiB.
+const MOST_OUTPUT: usize = 1_048_576;
+
+/// The answer -1.
+const FAILED: u32 = u32::MAX;
+
+/// The kind of a call that changed nothing but a0, which is a constant then.
+const NOTHING: Kind = Kind::Im { rd: 10 };
+
+/// The kernel of a run.
+#[derive(Drop)]
+pub struct Kernel {
+    alloc: Global,
+    mem: PagedMem,
+    heap: Heap,
+    input: Vec<u8>,
+    taken: usize,
+    output: Vec<u8>,
+}
+
+impl Model for Kernel {
+    ghost use Rattle.std.specs.Prelude.{◌≤◌, ◌^◌, length, drop};
+    ghost use Rattle.guest_kernel.specs.Image.{KernelImage};
+
+    ghost Value = { KernelImage };
+
+    ghost view = { λ k. record { memory = k.mem; heap = k.heap; input = drop k.taken k.input.items; output = k.output.items } };
+
+    ghost invariant = { λ k. (k.taken ≤ length k.input.items) × (length k.output.items ≤ 2 ^ 20) };
+}
+
+impl Kernel {
+    /// A kernel over a memory, with these bytes to come from outside, no live block and no output.
+    ///
+    /// # Errors
+    ///
+    /// `NoMemory` where none was left for the heap.
+    pub fn new(alloc: Global, mem: PagedMem, input: Vec<u8>) -> Result<Kernel, NoMemory>
+        ensures { IfOk result (λ kernel. state_of kernel ≡ started mem input.items) }
+    {
+        let heap = Heap::new(alloc)?;
+        Ok(Kernel {
+            alloc,
+            mem,
+            heap,
+            input,
+            taken: 0,
+            output: Vec::new(alloc),
+        })
+    }
+
+    /// Does the call of that number; `Ended` exactly for number 1.
+    ///
+    /// # Errors
+    ///
+    /// After `NoMemory` all is as before.
+    pub fn call(&mut self, args: CallArgs) -> Result<KernelStep, NoMemory>
+        ensures answer { IfOk result (IsAnswer (call_of args.a7) (state_of self.old) args) }
+        ensures after { IfOk result (λ step. state_of self.new ≡ after (state_of self.old) step) }
+        ensures unchanged { OnErr result (self.new ≡ self.old) }
+    {
+        match args.a7 {
+            1 => Ok(KernelStep::Ended { code: args.a0 }),
+            2 => self.alloc(args),
+            3 => self.free(args),
+            4 => self.map(args),
+            5 => self.unmap(args),
+            6 => self.read(args),
+            7 => self.write(args),
+            _ => Ok(failed()),
+        }
+    }
+
+    /// The memory.
+    pub fn mem(&self) -> &PagedMem
+        ensures { result.now ≡ self.now.memory }
+    {
+        &self.mem
+    }
+
+    /// The memory, to be changed.
+    pub fn mem_mut(&mut self) -> &mut PagedMem
+        ensures* writes_back { sem 𝓛 (LendsMemory self.entry result) }
+        ensures value { result.now ≡ self.old.memory }
+    {
+        &mut self.mem
+    }
+
+    /// The bytes that went outside, at most 1 MiB.
+    pub fn output(&self) -> &[u8]
+        ensures value { result.now ≡ self.now.output }
+        ensures few { length result.now ≤ 2 ^ 20 }
+    {
+        &self.output
+    }
+
+    /// Takes a block of a0 bytes.
+    fn alloc(&mut self, args: CallArgs) -> Result<KernelStep, NoMemory>
+        ensures answer { IfOk result (IsAnswer alloc_call (state_of self.old) args) }
+        ensures after { IfOk result (λ step. state_of self.new ≡ after (state_of self.old) step) }
+        ensures unchanged { OnErr result (self.new ≡ self.old) }
+    {
+        match self.heap.alloc(args.a0)? {
+            Some(addr) => Ok(went(addr, Kind::Al { addr, len: args.a0 })),
+            None => Ok(went(0, NOTHING)),
+        }
+    }
+
+    /// Gives the block back that starts at a0.
+    fn free(&mut self, args: CallArgs) -> Result<KernelStep, NoMemory>
+        ensures answer { IfOk result (IsAnswer free_call (state_of self.old) args) }
+        ensures after { IfOk result (λ step. state_of self.new ≡ after (state_of self.old) step) }
+        ensures unchanged { OnErr result (self.new ≡ self.old) }
+    {
+        let addr = args.a0;
+        match self.heap.free(addr)? {
+            Some(len) => Ok(went(0, Kind::Fr { addr, len })),
+            None => Ok(went(FAILED, Kind::Bf { addr })),
+        }
+    }
+
+    /// Maps a1 pages from address a0 on.
+    fn map(&mut self, args: CallArgs) -> Result<KernelStep, NoMemory>
+        ensures answer { IfOk result (IsAnswer map_call (state_of self.old) args) }
+        ensures after { IfOk result (λ step. state_of self.new ≡ after (state_of self.old) step) }
+        ensures unchanged { OnErr result (self.new ≡ self.old) }
+    {
+        let Some(Pages { first: page, count }) = map_pages(args.a0, args.a1) else {
+            return Ok(failed());
+        };
+        match self.mem.map(page, count, false) {
+            Ok(()) => Ok(went(0, Kind::Mp { page, count })),
+            Err(MapFault::NoMemory) => Err(NoMemory),
+            Err(_) => Ok(failed()),
+        }
+    }
+
+    /// Unmaps a1 pages from address a0 on.
+    fn unmap(&mut self, args: CallArgs) -> Result<KernelStep, NoMemory>
+        ensures answer { IfOk result (IsAnswer unmap_call (state_of self.old) args) }
+        ensures after { IfOk result (λ step. state_of self.new ≡ after (state_of self.old) step) }
+        ensures unchanged { OnErr result (self.new ≡ self.old) }
+    {
+        let Some(Pages { first: page, count }) = map_pages(args.a0, args.a1) else {
+            return Ok(failed());
+        };
+        match self.mem.unmap(page, count) {
+            Ok(()) => Ok(went(0, Kind::Um { page, count })),
+            Err(_) => Ok(failed()),
+        }
+    }
+
+    /// Moves the next input bytes, at most a2 of them, to a1.
+    fn read(&mut self, args: CallArgs) -> Result<KernelStep, NoMemory>
+        ensures answer { IfOk result (IsAnswer read_call (state_of self.old) args) }
+        ensures after { IfOk result (λ step. state_of self.new ≡ after (state_of self.old) step) }
+        ensures unchanged { OnErr result (self.new ≡ self.old) }
+    {
+        if args.a2 > MOST_MOVED {
+            return Ok(failed());
+        }
+        let Some(mut buffer) = bytes_at(self.alloc, &self.mem, args.a1, args.a2)? else {
+            return Ok(failed());
+        };
+        let count = copy_front(&self.input[self.taken..], &mut buffer);
+        let Ok(()) = self.mem.write_bytes(args.a1, &buffer) else {
+            return Ok(failed());
+        };
+        self.taken += count;
+        let len = count as u32;
+        Ok(moved(len, Kind::Rd { addr: args.a1, len }))
+    }
+
+    /// Moves a2 bytes from a1 to the output.
+    fn write(&mut self, args: CallArgs) -> Result<KernelStep, NoMemory>
+        ensures answer { IfOk result (IsAnswer write_call (state_of self.old) args) }
+        ensures after { IfOk result (λ step. state_of self.new ≡ after (state_of self.old) step) }
+        ensures unchanged { OnErr result (self.new ≡ self.old) }
+    {
+        if args.a2 > MOST_MOVED {
+            return Ok(failed());
+        }
+        if self.output.len() + args.a2 as usize > MOST_OUTPUT {
+            return Ok(failed());
+        }
+        let Some(buffer) = bytes_at(self.alloc, &self.mem, args.a1, args.a2)? else {
+            return Ok(failed());
+        };
+        self.output.extend_from_slice(&buffer)?;
+        let len = args.a2;
+        Ok(moved(len, Kind::Wr { addr: args.a1, len }))
+    }
+}
+
+/// The hart goes on.
+fn went(a0: u32, kind: Kind) -> KernelStep
+    ensures { result ≡ KernelStep.Went a0 kind }
+{
+    KernelStep::Went { a0, kind }
+}
+
+/// What a call gives that failed, or that is none.
+fn failed() -> KernelStep
+    ensures { result ≡ failure }
+{
+    went(FAILED, NOTHING)
+}
+
+/// What a read or a write gives that moved so many bytes, of this kind if there are any.
+fn moved(count: u32, kind: Kind) -> KernelStep
+    ensures { result ≡ moved count kind }
+{
+    let kind = if count == 0 { NOTHING } else { kind };
+    went(count, kind)
+}
+
+/// The bytes from an address on, so many of them; none exactly where one lies on no mapped page.
+fn bytes_at(
+    alloc: Global,
+    mem: &PagedMem,
+    addr: u32,
+    count: u32,
+) -> Result<Option<Vec<u8>>, NoMemory>
+    ensures some { IfOk result (λ found. IfSome found (λ list. HoldsAt mem.now addr count list.items)) }
+    ensures none { IfOk result (λ found. IfNone found (AllMapped (bytes mem.now) addr count → ⊥)) }
+{
+    let mut list = vec![in alloc; 0; count as usize]?;
+    match mem.read_bytes(addr, &mut list) {
+        Ok(()) => Ok(Some(list)),
+        Err(_) => Ok(None),
+    }
+}
+
+/// Copies as many of the first bytes as `into` has to its front; says how many.
+fn copy_front(from: &[u8], into: &mut [u8]) -> usize
+    ensures count { result ≡ min (length into.old) (length from.now) }
+    ensures bytes { into.new ≡ take result from.now ++ drop result into.old }
+{
+    let count = into.len().min(from.len());
+    into[..count].copy_from_slice(&from[..count]);
+    count
+}

@@ -1,0 +1,13 @@
+pub mod Digits
+pub mod Cuts
+pub mod Positions
+pub mod Scanning
+pub mod Sound
+pub mod Building
+pub mod Reading
+pub mod Pairs
+pub mod Lengths
+pub mod Validity
+pub mod Labels
+pub mod Whole
+pub mod One

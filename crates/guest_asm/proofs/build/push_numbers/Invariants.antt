@@ -1,0 +1,5 @@
+use Rattle.std.proofs.Common.{◌≡◌, ◌++◌, drop, map}
+use Rattle.guest_asm.proofs.build.push_numbers.Given as goal
+
+abbrev pub invariant-numbers : goal.invariant-numbers
+invariant-numbers l = l.words.items ++ map (λ n. n.bits) (drop l.number-index l.numbers) ≡ l.fn.words.items ++ map (λ n. n.bits) l.numbers

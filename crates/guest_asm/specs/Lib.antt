@@ -1,0 +1,10 @@
+pub mod Texts
+pub mod Numbers
+pub mod Operands
+pub mod Codes
+pub mod Statements
+pub mod Lines
+pub mod Rules
+pub mod Jobs
+pub mod Scans
+pub mod Listing

@@ -1,0 +1,27 @@
+//! The text of a job: a guest in assembler text, with what it is run on, and the listing of its words.
+//!
+//! A line means an optional label and an optional statement, whatever stands before it. The first pass reads the lines
+//! one by one, tries the rules against the lines before, and keeps each statement with its place and each label with
+//! its address. The second pass puts the addresses into the words.
+#![tactic(auto)]
+
+mod build;
+mod bytes;
+mod cause;
+mod code;
+mod directive;
+mod line;
+mod list;
+mod mnemonic;
+mod number;
+mod operand;
+mod read;
+mod rules;
+mod scan;
+mod statement;
+#[cfg(test)]
+mod tests;
+
+pub use cause::{JobCause, JobFault, JobRefused};
+pub use list::listing;
+pub use read::read_job;

@@ -50,7 +50,7 @@ both_some A B a b text x y r s first second = record {
       (pair_is x y p f.0 g.0, g.1);
 }
 
-same_behind : (front a b : List ℕ) → front ++ a ≡ front ++ b → a ≡ b
+pub same_behind : (front a b : List ℕ) → front ++ a ≡ front ++ b → a ≡ b
 same_behind [] a b e = e
 same_behind (x ∷ front) a b e = same_behind front a b (let tail : front ++ a ≡ front ++ b = cc in tail)
 

@@ -1,7 +1,16 @@
-pub mod Chain
-pub mod Entries
-pub mod KindFields
-pub mod LineTexts
-pub mod PartLemmas
-pub mod Reading
-pub mod Same
+mod ArcReading
+mod Chain
+mod KindFields
+mod LineTexts
+mod PointLemmas
+mod ReadLemmas
+mod ReaderLemmas
+mod RowLaws
+mod Same
+pub mod AddedLines
+pub mod ArcLemmas
+pub mod ArcRules
+pub mod PageLemmas
+pub mod RuleLemmas
+pub mod TallyLemmas
+pub mod WriteLemmas

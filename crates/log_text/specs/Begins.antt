@@ -1,30 +1,52 @@
 -- What a text begins with, when it is read from the front.
-use Rattle.std.specs.Prelude.{◌≡◌, ℕ, ◌≤◌, List, [], ◌++◌}
-use Rattle.log_text.specs.declared.item.Item.{Item}
-use Rattle.log_text.specs.declared.item.Item.TheVariants as item
-use Rattle.log_text.specs.Spelling.{Entry, page, row, header_text, line_text, entry_text}
-use Rattle.log_text.specs.Form.{IsInForm}
-
--- the line that was read
-abbrev pub entry_from : Item → Entry
-entry_from (item.Page run) = page run
-entry_from (item.Row what) = row what []
+use Rattle.std.specs.Prelude.{◌≡◌, ℕ, ◌≤◌, List, ◌∷◌, ◌++◌}
+use Rattle.pl_event.specs.declared.log.Point.{Point}
+use Rattle.pl_event.specs.declared.log.Record.{Record}
+use Rattle.pl_event.specs.declared.log.PageRun.{PageRun}
+use Rattle.log_text.specs.declared.points.Points.{Points}
+use Rattle.log_text.specs.Arcs.{ShowsPoints}
+use Rattle.log_text.specs.Spelling.{Entry, page, row, arc_words, header_text, line_text, entry_text}
+use Rattle.log_text.specs.Form.{IsInForm, ArePointsInForm, MayHave, most_read}
+use Rattle.log_text.specs.Reads.{behind_blanks}
+use Rattle.log_text.specs.WellFormed.{IsBlockSize}
 
 -- the bytes begin with this line in form and its line feed, and with no other
 pub record Begins (bytes : List ℕ) (e : Entry) (rest : List ℕ) : Type 0 where
-  pub in_form : IsInForm e
+  pub in_form : IsInForm most_read e
   pub spelled : bytes ≡ line_text (entry_text e) ++ rest
-  pub only : (other : Entry) (after : List ℕ) → IsInForm other → bytes ≡ line_text (entry_text other) ++ after → (other ≡ e) × (after ≡ rest)
+  pub only : (other : Entry) (after : List ℕ) → IsInForm most_read other → bytes ≡ line_text (entry_text other) ++ after → (other ≡ e) × (after ≡ rest)
 
-abbrev pub BeginsWithNone : List ℕ → Type 0
-BeginsWithNone bytes = (e : Entry) (after : List ℕ) → IsInForm e → bytes ≡ line_text (entry_text e) ++ after → ⊥
+-- it is a record with these arcs
+pub record BeginsWithRow (bytes : List ℕ) (what : Record) (arcs : Points) (rest : List ℕ) : Type 0 where
+  pub points : List Point
+  pub shows : ShowsPoints arcs points
+  pub begins : Begins bytes (row what points) rest
 
--- the bytes begin with the header of so many harts and its line feed, and with no other
-pub record BeginsWithHeader (bytes : List ℕ) (harts : ℕ) (rest : List ℕ) : Type 0 where
+abbrev pub BeginsWithNoRow : List ℕ → Type 0
+BeginsWithNoRow bytes = (what : Record) (points : List Point) (after : List ℕ) → IsInForm most_read (row what points) → bytes ≡ line_text (entry_text (row what points)) ++ after → ⊥
+
+abbrev pub BeginsWithNoPage : List ℕ → Type 0
+BeginsWithNoPage bytes = (run : PageRun) (after : List ℕ) → IsInForm most_read (page run) → bytes ≡ line_text (entry_text (page run)) ++ after → ⊥
+
+-- the bytes are these arcs in form, which the record may have, and a line feed, and no others
+pub record EndsWithArcs (what : Record) (bytes : List ℕ) (arcs : Points) (rest : List ℕ) : Type 0 where
+  pub points : List Point
+  pub in_form : ArePointsInForm most_read points
+  pub may_have : MayHave what points
+  pub shows : ShowsPoints arcs points
+  pub spelled : bytes ≡ behind_blanks (arc_words points) (10 ∷ rest)
+  pub only : (others : List Point) (after : List ℕ) → ArePointsInForm most_read others → MayHave what others → bytes ≡ behind_blanks (arc_words others) (10 ∷ after) → (others ≡ points) × (after ≡ rest)
+
+abbrev pub EndsWithNone : Record → List ℕ → Type 0
+EndsWithNone what bytes = (points : List Point) (after : List ℕ) → ArePointsInForm most_read points → MayHave what points → bytes ≡ behind_blanks (arc_words points) (10 ∷ after) → ⊥
+
+-- the bytes begin with the header of so many harts and that size of blocks and its line feed, and with no other
+pub record BeginsWithHeader (bytes : List ℕ) (harts block : ℕ) (rest : List ℕ) : Type 0 where
   pub some : 1 ≤ harts
   pub few : harts ≤ 8
-  pub spelled : bytes ≡ line_text (header_text harts 16) ++ rest
-  pub only : (other : ℕ) (after : List ℕ) → 1 ≤ other → other ≤ 8 → bytes ≡ line_text (header_text other 16) ++ after → (other ≡ harts) × (after ≡ rest)
+  pub size : IsBlockSize block
+  pub spelled : bytes ≡ line_text (header_text harts block) ++ rest
+  pub only : (other other_block : ℕ) (after : List ℕ) → 1 ≤ other → other ≤ 8 → IsBlockSize other_block → bytes ≡ line_text (header_text other other_block) ++ after → (other ≡ harts) × (other_block ≡ block) × (after ≡ rest)
 
 abbrev pub BeginsWithNoHeader : List ℕ → Type 0
-BeginsWithNoHeader bytes = (harts : ℕ) (rest : List ℕ) → 1 ≤ harts → harts ≤ 8 → bytes ≡ line_text (header_text harts 16) ++ rest → ⊥
+BeginsWithNoHeader bytes = (harts block : ℕ) (rest : List ℕ) → 1 ≤ harts → harts ≤ 8 → IsBlockSize block → bytes ≡ line_text (header_text harts block) ++ rest → ⊥

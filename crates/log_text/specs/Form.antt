@@ -1,8 +1,10 @@
 -- Which lines are in form: each field is in its range, whatever stands before it.
-use Rattle.std.specs.Prelude.{◌≡◌, ℕ, ◌^◌, ◌<◌, ◌≤◌, []}
+use Rattle.std.specs.Prelude.{◌≡◌, ℕ, ◌^◌, ◌<◌, ◌≤◌, List, []}
+use Rattle.std.specs.List.{AllByRecursion}
 use Rattle.pl_event.specs.Valid.{IsRegister}
 use Rattle.pl_event.specs.declared.event.Kind.{Kind}
-use Rattle.pl_event.specs.declared.event.Kind.TheVariants.{Ld, St, Al, Fr}
+use Rattle.pl_event.specs.declared.event.Kind.TheVariants.{Ld, St, Op, Mv, Im, Br, Jr, Al, Fr, Bf, Mp, Um, Rd, Wr, Ex, Ft}
+use Rattle.pl_event.specs.declared.log.Point.{Point}
 use Rattle.pl_event.specs.declared.log.Record.{Record}
 use Rattle.pl_event.specs.declared.log.Record.TheVariants as entry
 use Rattle.log_text.specs.Spelling.{Entry, page, row}
@@ -15,19 +17,50 @@ IsBlock addr len = (addr < 2 ^ 24) × (1 ≤ len) × (len ≤ 65536)
 abbrev pub IsPages : ℕ → ℕ → Type 0
 IsPages first count = (first ≤ 4095) × (1 ≤ count) × (count ≤ 512)
 
--- the fields of the kinds that a log of the first form has
+-- the fields of each kind
 abbrev pub HasFormFields : Kind → Type 0
 HasFormFields (Ld width rd rb addr) = IsRegister rd × IsRegister rb × (addr < 2 ^ 24)
 HasFormFields (St width rv rb addr) = IsRegister rv × IsRegister rb × (addr < 2 ^ 24)
+HasFormFields (Op rd r1 r2) = IsRegister rd × IsRegister r1 × IsRegister r2
+HasFormFields (Mv rd rs) = IsRegister rd × IsRegister rs
+HasFormFields (Im rd) = IsRegister rd
+HasFormFields (Br r1 r2) = IsRegister r1 × IsRegister r2
+HasFormFields (Jr rd rs) = IsRegister rd × IsRegister rs
 HasFormFields (Al addr len) = IsBlock addr len
 HasFormFields (Fr addr len) = IsBlock addr len
-HasFormFields _ = ⊥
+HasFormFields (Bf addr) = addr < 2 ^ 32
+HasFormFields (Mp first count) = IsPages first count
+HasFormFields (Um first count) = IsPages first count
+HasFormFields (Rd addr len) = IsBlock addr len
+HasFormFields (Wr addr len) = IsBlock addr len
+HasFormFields Ex = Unit {0}
+HasFormFields (Ft cause addr) = addr < 2 ^ 32
 
--- a hart is one digit
-abbrev pub IsRecordInForm : Record → Type 0
-IsRecordInForm (entry.Event event) = (event.hart ≤ 9) × HasFormFields event.kind
-IsRecordInForm (entry.Notice hart point) = ⊥
+-- a hart is one digit, and a record number is at most `most`
+abbrev pub IsPointInForm : ℕ → Point → Type 0
+IsPointInForm most point = (point.hart ≤ 9) × (1 ≤ point.number) × (point.number ≤ most)
 
-abbrev pub IsInForm : Entry → Type 0
-IsInForm (page run) = IsPages run.first run.count
-IsInForm (row what points) = IsRecordInForm what × (points ≡ [])
+abbrev pub ArePointsInForm : ℕ → List Point → Type 0
+ArePointsInForm most points = AllByRecursion (IsPointInForm most) points
+
+abbrev pub IsRecordInForm : ℕ → Record → Type 0
+IsRecordInForm most (entry.Event event) = (event.hart ≤ 9) × HasFormFields event.kind
+IsRecordInForm most (entry.Notice hart point) = (hart ≤ 9) × IsPointInForm most point
+
+-- a notice has no arcs
+abbrev pub MayHave : Record → List Point → Type 0
+MayHave (entry.Event event) points = Unit {0}
+MayHave (entry.Notice hart point) points = points ≡ []
+
+-- a line with record numbers up to `most`
+abbrev pub IsInForm : ℕ → Entry → Type 0
+IsInForm most (page run) = IsPages run.first run.count
+IsInForm most (row what points) = IsRecordInForm most what × ArePointsInForm most points × MayHave what points
+
+-- the greatest record number of a log that is read
+abbrev pub most_read : ℕ
+most_read = 2000000
+
+-- the greatest record number that is written
+abbrev pub most_written : ℕ
+most_written = 4294967295

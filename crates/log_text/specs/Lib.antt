@@ -1,7 +1,11 @@
+pub mod Arcs
 pub mod Begins
 pub mod Form
-pub mod Made
+pub mod Pages
 pub mod Parts
+pub mod Reading
 pub mod Reads
 pub mod Spelling
+pub mod Tally
 pub mod WellFormed
+pub mod Writing

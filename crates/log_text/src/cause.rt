@@ -1,14 +1,36 @@
 use pl_base::NoMemory;
 use std::alloc::{AllocError, AllocFailed};
 
-/// Why a text is no log.
+/// Why a text is no log: the rules of a line, in the order in which they are tried.
 #[derive(Clone, Copy, Debug, PartialEq, Eq)]
 pub enum LogCause {
     /// Line 1 is no header that ends with a line feed, or there is no line.
     Header,
-    /// A later line does not continue a log of the first form: page lines, and then loads, stores and blocks taken
-    /// and given back, without arcs.
-    Later,
+    /// A later line is no page line and no record line, or does not end with a line feed.
+    Form,
+    /// A page line follows a record, starts below the end of the run before it, passes page 4095, or maps more than
+    /// 512 pages.
+    Page,
+    /// More than 2,000,000 records.
+    Records,
+    /// A hart that the run does not have: the record's, an arc's, or that of the record that a notice names.
+    Hart,
+    /// An event of a hart that has ended.
+    Ended,
+    /// A record of a hart that has a notice whose event has not come; at the end, such a notice.
+    Open,
+    /// An arc of the own hart, arcs whose harts do not rise strictly, or an arc from a record that has not come.
+    Arc,
+    /// A notice of the own hart or of a record that has come, or a record that a notice names and that is no alert
+    /// event.
+    Notice,
+    /// The address of a load or a store is no multiple of its width.
+    Access,
+    /// A range of bytes passes the end of memory.
+    Range,
+    /// Pages past page 4095, mapped pages that are mapped again, more than 512 of them, or unmapped pages that are
+    /// unmapped.
+    Map,
 }
 
 /// The first line, counted from 1, that breaks a rule, and the first rule that it breaks. The end counts as the line
@@ -56,5 +78,16 @@ impl<T: Drop> From<AllocFailed<T>> for LogRefused {
 
     fn from(_error: AllocFailed<T>) -> LogRefused {
         LogRefused::NoMemory
+    }
+}
+
+impl From<LogFault> for LogRefused {
+    ghost use Rattle.std.specs.Prelude.{◌≡◌};
+    ghost use Rattle.log_text.specs.declared.cause.LogRefused.TheVariants as refused;
+
+    ghost from_gives = { λ fault e. e ≡ refused.Fault fault };
+
+    fn from(fault: LogFault) -> LogRefused {
+        LogRefused::Fault(fault)
     }
 }

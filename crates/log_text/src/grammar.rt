@@ -1,36 +1,65 @@
+mod arcs;
 mod field;
 mod kind;
 mod line;
-#[cfg(test)]
-mod tests;
 
 ghost use Rattle.std.specs.Prelude.{IfSome, IfNone};
-ghost use Rattle.log_text.specs.Begins.{Begins, BeginsWithNone, BeginsWithHeader, BeginsWithNoHeader, entry_from};
+ghost use Rattle.log_text.specs.Begins.{Begins, BeginsWithRow, BeginsWithNoRow, BeginsWithNoPage, BeginsWithHeader, BeginsWithNoHeader};
+ghost use Rattle.log_text.specs.Spelling.{page};
+ghost use Rattle.log_text.specs.Reads.{ReadsHarts};
 
-use crate::item::Item;
-use line::words_at;
+use crate::points::Points;
+use arcs::end_at;
+use line::{page_run, record};
+use pl_event::{PageRun, Record};
 use pl_text::{after_byte, after_word, decimal_at};
 
-/// How many harts the header names that the bytes begin with, and what stands behind its line feed.
-pub fn header_at(bytes: &[u8]) -> Option<(u8, &[u8])>
-    ensures found { IfSome result (λ r. BeginsWithHeader bytes.now r.0 r.1.now) }
+/// How many harts the header names that the bytes begin with, its size of blocks, and what stands behind its line feed.
+pub fn header_at(bytes: &[u8]) -> Option<(u8, u8, &[u8])>
+    ensures found { IfSome result (λ r. BeginsWithHeader bytes.now r.0 r.1 r.2.now) }
     ensures missed { IfNone result (BeginsWithNoHeader bytes.now) }
 {
-    let rest = after_word(bytes, b"PLOG 1 harts ")?;
-    let (harts, rest) = decimal_at(rest, 8)?;
+    if let Some(rest) = after_word(bytes, b"PLOG 1 harts ") {
+        let (harts, rest) = harts_at(rest)?;
+        let rest = after_word(rest, b" block 16\n")?;
+        return Some((harts, 16, rest));
+    }
+    let rest = after_word(bytes, b"PLOG 2 harts ")?;
+    let (harts, rest) = harts_at(rest)?;
+    let rest = after_word(rest, b" block 4\n")?;
+    Some((harts, 4, rest))
+}
+
+/// From 1 to 8 harts.
+fn harts_at(text: &[u8]) -> Option<(u8, &[u8])>
+    ensures { ReadsHarts text.now result }
+{
+    let (harts, rest) = decimal_at(text, 8)?;
     if harts == 0 {
         return None;
     }
-    let rest = after_word(rest, b" block 16\n")?;
     Some((harts as u8, rest))
 }
 
-/// The line in form that the bytes begin with, and what stands behind its line feed.
-pub fn item_at(bytes: &[u8]) -> Option<(Item, &[u8])>
-    ensures found { IfSome result (λ r. Begins bytes.now (entry_from r.0) r.1.now) }
-    ensures missed { IfNone result (BeginsWithNone bytes.now) }
+/// The line of a record in form that the bytes begin with, and what stands behind its line feed.
+#[inline(always)]
+pub fn row_at(bytes: &[u8]) -> Option<(Record, Points, &[u8])>
+    ensures found { IfSome result (λ r. BeginsWithRow bytes.now r.0 r.1 r.2.now) }
+    ensures missed { IfNone result (BeginsWithNoRow bytes.now) }
 {
-    let (item, rest) = words_at(bytes)?;
+    let (what, rest) = record(bytes)?;
+    let Some((points, rest)) = end_at(what, rest) else {
+        return None;
+    };
+    Some((what, points, rest))
+}
+
+/// The line of a run of pages in form that the bytes begin with, and what stands behind its line feed.
+pub fn page_at(bytes: &[u8]) -> Option<(PageRun, &[u8])>
+    ensures found { IfSome result (λ r. Begins bytes.now (page r.0) r.1.now) }
+    ensures missed { IfNone result (BeginsWithNoPage bytes.now) }
+{
+    let (run, rest) = page_run(bytes)?;
     let rest = after_byte(rest, b'\n')?;
-    Some((item, rest))
+    Some((run, rest))
 }

@@ -7,10 +7,15 @@
 
 mod cause;
 mod grammar;
-mod item;
+mod judge;
+mod page_set;
+mod points;
 mod read;
 mod reader;
-mod rule;
+mod tally;
+mod write;
 
 pub use cause::{LogCause, LogFault, LogRefused};
 pub use read::read_log;
+pub use reader::{LogReader, Opening, Row};
+pub use write::write_log;

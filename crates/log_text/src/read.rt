@@ -1,21 +1,16 @@
-ghost use Rattle.std.specs.Prelude.{◌≡◌, ◌<◌, ◌^◌, length, IfOk};
+ghost use Rattle.std.specs.Prelude.{◌≡◌, ◌<◌, ◌≤◌, ◌^◌, Ok, true, false, ◌++◌, ◌∷◌, [], length, IfOk, OnOk};
 ghost use Rattle.pl_event.specs.declared.log.Log.{Log};
 ghost use Rattle.log_text.specs.Parts.{HasValidParts};
+ghost use Rattle.log_text.specs.Reading.{HasRead, IsOnly, IsNoLog, opened, line_of};
 ghost use Rattle.log_text.specs.WellFormed.{IsLogText, IsFirstFault, IfFault};
 
-use crate::cause::{LogCause, LogFault, LogRefused};
-use crate::grammar::{header_at, item_at};
-use crate::reader::Reader;
-use pl_event::Log;
-use std::alloc::Global;
+use crate::cause::LogRefused;
+use crate::reader::{LogReader, Opening, Row};
+use pl_event::{Lines, Log};
+use std::alloc::{AllocError, Global};
 
-fn refused(line: u32, cause: LogCause) -> LogRefused
-    ensures { result ≡ LogRefused.Fault (record { line = line; cause = cause }) }
-{
-    LogRefused::Fault(LogFault { line, cause })
-}
-
-/// The log that the bytes spell, or the first line that breaks a rule.
+/// The log that the bytes spell, or the first line that breaks a rule and the first rule that it breaks. The text of a
+/// log that was read is the bytes that were read.
 pub fn read_log(alloc: Global, bytes: &[u8]) -> Result<Log, LogRefused>
     requires { length bytes.now < 2 ^ 31 }
     ensures ok { IfOk result (IsLogText bytes.now) }
@@ -24,31 +19,94 @@ pub fn read_log(alloc: Global, bytes: &[u8]) -> Result<Log, LogRefused>
     ensures fault { IfFault result (IsFirstFault bytes.now) }
     ensures none { IfFault result (λ _. (log : Log) → IsLogText bytes.now log → ⊥) }
 {
-    let Some((harts, after_header)) = header_at(bytes) else {
-        return Err(refused(1, LogCause::Header));
-    };
-    let mut reader = Reader::new(alloc, harts);
-    let mut rest = after_header;
-    let mut line = 2u32;
-    'lines: while !rest.is_empty() {
-        let Some((item, after)) = item_at(rest) else {
-            return Err(refused(line, LogCause::Later));
-        };
-        if reader.judge(item).is_some() {
-            return Err(refused(line, LogCause::Later));
-        }
-        reader.add(item)?;
-        rest = after;
-        line += 1;
+    match LogReader::open(alloc, bytes) {
+        Ok(opening) => read_records(alloc, opening, bytes),
+        Err(refused) => Err(refused),
     }
-    Ok(reader.into_log())
+}
+
+/// The log whose header and pages were read.
+fn read_records(alloc: Global, opening: Opening, bytes: &[u8]) -> Result<Log, LogRefused>
+    requires few { length bytes.now < 2 ^ 31 }
+    requires start { opening.reader.at ≤ length bytes.now }
+    requires read { HasRead opening.reader bytes.now (opened opening) }
+    ensures ok { IfOk result (IsOnly bytes.now) }
+    ensures fault { IfFault result (IsNoLog bytes.now) }
+{
+    let Opening {
+        harts,
+        block,
+        pages,
+        reader,
+    } = opening;
+    match read_lines(alloc, reader, bytes) {
+        Ok(lines) => Ok(Log {
+            harts,
+            block,
+            pages,
+            lines,
+        }),
+        Err(refused) => Err(refused),
+    }
+}
+
+/// The record lines behind the pages.
+fn read_lines(alloc: Global, mut reader: LogReader, bytes: &[u8]) -> Result<Lines, LogRefused>
+    requires few { length bytes.now < 2 ^ 31 }
+    requires start { reader.at ≤ length bytes.now }
+    ensures ok { (log : Log) → log.lines ≡ [] → HasRead reader bytes.now log → IfOk result (λ lines. IsOnly bytes.now (record log { lines = lines })) }
+    ensures fault { (log : Log) → log.lines ≡ [] → HasRead reader bytes.now log → IfFault result (IsNoLog bytes.now) }
+{
+    let mut lines = Lines::new(alloc);
+    let mut reading = true;
+    'lines: while reading {
+        match read_line(&mut reader, bytes, &mut lines) {
+            Ok(more) => reading = more,
+            Err(refused) => return Err(refused),
+        }
+    }
+    Ok(lines)
+}
+
+/// Reads one more line; false at the end of the log.
+#[inline]
+fn read_line(reader: &mut LogReader, bytes: &[u8], lines: &mut Lines) -> Result<bool, LogRefused>
+    requires few { length bytes.now < 2 ^ 31 }
+    requires start { reader.old.at ≤ length bytes.now }
+    ensures inside { reader.new.at ≤ length bytes.now }
+    ensures further { result ≡ Ok true → reader.old.at < reader.new.at }
+    ensures row { (log : Log) → log.lines ≡ lines.old → HasRead reader.old bytes.now log → result ≡ Ok true → HasRead reader.new bytes.now (record log { lines = lines.new }) }
+    ensures end { (log : Log) → log.lines ≡ lines.old → HasRead reader.old bytes.now log → result ≡ Ok false → IsOnly bytes.now (record log { lines = lines.new }) }
+    ensures fault { (log : Log) → log.lines ≡ lines.old → HasRead reader.old bytes.now log → IfFault result (IsNoLog bytes.now) }
+{
+    match reader.next(bytes) {
+        Ok(Some(row)) => {
+            push(lines, &row)?;
+            Ok(true)
+        }
+        Ok(None) => Ok(false),
+        Err(fault) => Err(LogRefused::Fault(fault)),
+    }
+}
+
+/// One more line.
+#[inline]
+fn push(lines: &mut Lines, row: &Row) -> Result<(), AllocError>
+    ensures { OnOk result (lines.new ≡ lines.old ++ line_of row.now ∷ []) }
+{
+    if row.has_arcs() {
+        lines.push(row.line())
+    } else {
+        lines.push_record(row.what)
+    }
 }
 
 #[cfg(test)]
 mod tests {
     use super::*;
-    use pl_base::{LoadWidth, StoreWidth};
-    use pl_event::{Arcs, Event, Kind, PageKind, PageRun, Record};
+    use crate::cause::{LogCause, LogFault};
+    use pl_base::FaultCause;
+    use pl_event::{Arcs, Event, Kind, PageKind, PageRun, Point, Record};
     use std::process::Abort;
 
     /// Reads these lines behind a header of two harts.
@@ -63,56 +121,54 @@ mod tests {
     }
 
     #[test]
-    fn reads_pages_and_the_four_kinds(rt: HostRuntime) {
-        let lines =
-            "page 16 2 data\npage 4095 1 stack\nh0 ld w 5 6 10000\nh1 st h 7 33 10002\nh0 al 400000 65536\nh1 fr 400000 1\n";
+    fn reads_the_header_and_the_pages(rt: HostRuntime) {
+        let text = "PLOG 2 harts 8 block 4\npage 16 2 data\npage 18 1 heap\npage 4095 1 stack\n";
+        let read = read_log(rt.alloc(), text.as_bytes());
+        assert!(rt; read.is_ok());
+        let Ok(log) = read else {
+            return;
+        };
+        assert_eq!(rt; (log.harts, log.block, log.lines.len()), (8, 4, 0));
+        let heap = PageRun {
+            first: 18,
+            count: 1,
+            kind: PageKind::Heap,
+        };
+        assert_eq!(rt; log.pages.as_slice().len(), 3);
+        assert_eq!(rt; log.pages.as_slice().get(1), Some(&heap));
+    }
+
+    #[test]
+    fn reads_records_with_arcs_and_notices(rt: HostRuntime) {
+        let lines = "h1 ! 0:1\nh0 al 400000 65536\nh1 ft unmapped ffffffff < 0:1\n";
         let read = read_lines(&rt, rt.alloc(), lines);
         assert!(rt; read.is_ok());
         let Ok(log) = read else {
             return;
         };
-        assert_eq!(rt; (log.harts, log.block), (2, 16));
-        let data = PageRun {
-            first: 16,
-            count: 2,
-            kind: PageKind::Data,
-        };
-        let stack = PageRun {
-            first: 4095,
-            count: 1,
-            kind: PageKind::Stack,
-        };
-        assert_eq!(rt; log.pages.as_slice(), [data, stack].as_slice());
-        let load = Kind::Ld {
-            width: LoadWidth::W,
-            rd: 5,
-            rb: 6,
-            addr: 0x10000,
-        };
-        let store = Kind::St {
-            width: StoreWidth::H,
-            rv: 7,
-            rb: 33,
-            addr: 0x10002,
-        };
-        let take = Kind::Al {
-            addr: 0x0040_0000,
-            len: 65_536,
-        };
-        let give = Kind::Fr {
-            addr: 0x0040_0000,
-            len: 1,
-        };
-        assert_eq!(rt; log.lines.len(), 4);
-        let records = [(0, load), (1, store), (0, take), (1, give)];
-        for (i, (hart, kind)) in records.into_iter().enumerate() {
-            if i >= log.lines.len() {
-                return;
-            }
-            let line = log.lines.get(i);
-            assert_eq!(rt; line.what, Record::Event(Event { hart, kind }));
-            assert_eq!(rt; line.arcs, Arcs::none());
+        assert_eq!(rt; log.lines.len(), 3);
+        if log.lines.len() != 3 {
+            return;
         }
+        let notice = Record::Notice {
+            hart: 1,
+            of: Point { hart: 0, number: 1 },
+        };
+        assert_eq!(rt;
+            (log.lines.get(0).what, log.lines.get(0).arcs),
+            (notice, Arcs::none())
+        );
+        let kind = Kind::Ft {
+            cause: FaultCause::Unmapped,
+            addr: u32::MAX,
+        };
+        let mut arcs = Arcs::none();
+        arcs.set(0, Some(1));
+        assert_eq!(rt;
+            log.lines.get(2).what,
+            Record::Event(Event { hart: 1, kind })
+        );
+        assert_eq!(rt; log.lines.get(2).arcs, arcs);
     }
 
     #[test]
@@ -120,48 +176,67 @@ mod tests {
         for lines in [
             "page 0 511 data\npage 511 1 heap\n",
             "page 4095 1 data\nh1 ld h 5 6 fffffe\n",
-            "h0 st w 5 6 4\nh0 ld b 5 6 3\n",
             "h0 al ffffff 1\nh0 fr ff0000 65536\n",
+            "h0 im 5\nh1 mv 5 6 < 0:1\nh0 br 1 2 < 1:1\n",
+            "h0 ex\nh0 ! 1:1\nh1 rd 0 1\n",
+            "h1 ! 0:2\nh0 op 1 2 33\nh0 wr ffffff 1\nh1 jr 1 5\n",
+            "h0 mp 0 512\nh0 um 0 512\nh0 mp 4095 1\n",
+            "h0 ! 1:2\nh1 im 5\nh1 mp 0 1\n",
         ] {
-            assert!(rt; read_lines(&rt, rt.alloc(), lines).is_ok(), "at {lines}");
+            let read = read_lines(&rt, rt.alloc(), lines);
+            assert!(rt; read.is_ok(), "at {lines}");
         }
     }
 
     #[test]
-    fn refuses_the_first_value_of_each_rule(rt: HostRuntime) {
-        for (lines, line) in [
-            ("page 16 2 data\npage 17 1 heap\n", 3),
-            ("h0 al 400000 16\npage 16 1 data\n", 3),
-            ("page 4095 2 data\n", 2),
-            ("page 0 512 data\npage 512 1 heap\n", 3),
-            ("h1 ld w 5 6 0\nh2 ld w 5 6 0\nh2 ld w 5 6 0\n", 3),
-            ("h0 ld h 5 6 100001\n", 2),
-            ("h0 st w 5 6 100002\n", 2),
-            ("h0 al ffffff 2\n", 2),
-            ("h0 fr ff0001 65536\n", 2),
+    fn names_the_first_line_and_the_first_rule_that_it_breaks(rt: HostRuntime) {
+        for (lines, line, cause) in [
+            ("\n", 2, LogCause::Form),
+            ("h0 im 5\nh0 ld w 5 6 0 \n", 3, LogCause::Form),
+            ("h0 ! 1:1 < 1:1\n", 2, LogCause::Form),
+            ("h0 im 5 < 1:2000001\n", 2, LogCause::Form),
+            ("h0 im 5 < 1:0\n", 2, LogCause::Form),
+            ("h0 im 5 <\n", 2, LogCause::Form),
+            ("h0 im 5", 2, LogCause::Form),
+            ("page 16 2 data\npage 17 1 heap\n", 3, LogCause::Page),
+            ("h0 al 400000 16\npage 16 1 data\n", 3, LogCause::Page),
+            ("page 4095 2 data\n", 2, LogCause::Page),
+            ("page 0 512 data\npage 512 1 heap\n", 3, LogCause::Page),
+            ("h0 im 5 < 2:1\n", 2, LogCause::Hart),
+            ("h9 ! 0:1\n", 2, LogCause::Hart),
+            ("h0 ! 9:1\n", 2, LogCause::Hart),
+            ("h0 ex\nh0 im 5 < 0:9\n", 3, LogCause::Ended),
+            ("h1 ft pc 0\nh1 im 5\n", 3, LogCause::Ended),
         ] {
-            assert_eq!(rt;
-                read_lines(&rt, rt.alloc(), lines).err(),
-                fault(line, LogCause::Later),
-                "at {lines}"
-            );
+            let read = read_lines(&rt, rt.alloc(), lines);
+            assert_eq!(rt; read.err(), fault(line, cause), "at {lines}");
         }
     }
 
     #[test]
-    fn refuses_what_is_no_line(rt: HostRuntime) {
-        for (lines, line) in [
-            ("h0 im 5\n", 2),
-            ("\n", 2),
-            ("h0 al 400000 16\nh0 fr 400000 16", 3),
-            ("h0 ld w 5 6 0 < 1:1\n", 2),
-            ("h0 ld w 05 6 0\n", 2),
+    fn names_what_the_lines_before_rule_out(rt: HostRuntime) {
+        for (lines, line, cause) in [
+            ("h1 ! 0:1\nh1 im 5\nh0 al 400000 16\n", 3, LogCause::Open),
+            ("h1 ! 0:1\n", 3, LogCause::Open),
+            ("h1 ! 0:1\nh1 ! 0:1\n", 3, LogCause::Open),
+            ("h0 im 5 < 0:1\n", 2, LogCause::Arc),
+            ("h0 im 5 < 1:1\n", 2, LogCause::Arc),
+            ("h1 im 5\nh0 im 5 < 1:1,1:1\n", 3, LogCause::Arc),
+            ("h0 ! 1:2\nh1 im 5\nh1 im 5\n", 4, LogCause::Notice),
+            ("h0 ! 0:5\n", 2, LogCause::Notice),
+            ("h1 im 5\nh0 ! 1:1\n", 3, LogCause::Notice),
+            ("h0 ! 1:1\nh1 ! 0:2\n", 3, LogCause::Notice),
+            ("h0 ld h 5 6 100001\n", 2, LogCause::Access),
+            ("h0 st w 5 6 100002\n", 2, LogCause::Access),
+            ("h0 wr ffffff 1\nh0 wr ffffff 2\n", 3, LogCause::Range),
+            ("h0 rd ff0001 65536\n", 2, LogCause::Range),
+            ("page 16 1 data\nh0 mp 16 1\n", 3, LogCause::Map),
+            ("page 0 512 data\nh0 mp 600 1\n", 3, LogCause::Map),
+            ("h0 um 16 1\n", 2, LogCause::Map),
+            ("h0 mp 4095 2\n", 2, LogCause::Map),
         ] {
-            assert_eq!(rt;
-                read_lines(&rt, rt.alloc(), lines).err(),
-                fault(line, LogCause::Later),
-                "at {lines}"
-            );
+            let read = read_lines(&rt, rt.alloc(), lines);
+            assert_eq!(rt; read.err(), fault(line, cause), "at {lines}");
         }
     }
 
@@ -173,7 +248,8 @@ mod tests {
             "PLOG 1 harts 2 block 16",
             "PLOG 1 harts 0 block 16\n",
             "PLOG 1 harts 9 block 16\n",
-            "PLOG 2 harts 2 block 4\n",
+            "PLOG 2 harts 2 block 16\n",
+            "PLOG 1 harts 2 block 4\n",
         ] {
             let read = read_log(rt.alloc(), text.as_bytes());
             assert_eq!(rt; read.err(), fault(1, LogCause::Header), "at {text}");

@@ -1,231 +1,183 @@
-ghost use Rattle.std.specs.Prelude.{◌≡◌, ◌≤◌, ◌<◌, ◌+◌, ◌%◌, ◌^◌, ◌==◌, false, None, OnOk, OnErr, nat_le, nat_lt, sum_by, count_by};
-ghost use Rattle.std.specs.List.{list_any};
-ghost use Rattle.pl_base.specs.Widths.{load_bytes, store_bytes};
-ghost use Rattle.pl_event.specs.Numbers.{hart_of};
-ghost use Rattle.log_text.specs.Begins.{entry_from};
-ghost use Rattle.log_text.specs.Spelling.{entries_of};
-ghost use Rattle.log_text.specs.Made.{empty_log, with_item};
-ghost use Rattle.log_text.specs.WellFormed.{broken, breaks_page, is_row, page_end, pages_in, on_event, is_misaligned, passes_end};
+//! A log read line by line: what is left of its bytes begins with a line in form, or with none, and the rules judge that
+//! line by a tally of the lines before it.
 
-use crate::item::Item;
-use crate::rule::Rule;
-use pl_base::{LoadWidth, StoreWidth};
-use pl_event::{Kind, Lines, Log, PageRun, PageRuns, Record, record_hart};
-use std::alloc::{AllocError, Global};
+ghost use Rattle.std.specs.Prelude.{◌≡◌, ◌≤◌, ◌<◌, ◌+◌, All, ◌-◌, ◌%◌, ◌^◌, ℕ, List, [], length, drop, IfErr, IfOk};
+ghost use Rattle.pl_event.specs.declared.log.Log.{Log};
+ghost use Rattle.log_text.specs.Begins.{BeginsWithNoRow};
+ghost use Rattle.log_text.specs.WellFormed.{IfFault};
+ghost use Rattle.log_text.specs.Reading.{HasRead, IsReadBy, ReadsRow, IsOnly, IsNoLog, IfRow, IfEnd, opened, line_of};
 
-/// How many records a log can have.
-const MAX_RECORDS: usize = 2_000_000;
+use crate::cause::{LogCause, LogFault, LogRefused};
+use crate::grammar::{header_at, page_at, row_at};
+use crate::judge::{judge_page, judge_row, some_is_open};
+use crate::points::Points;
+use crate::tally::Tally;
+use pl_event::{Line, PageRuns, Record};
+use std::alloc::Global;
 
-/// How many pages the runs of a log can have.
-const MAX_MAPPED: u32 = 512;
-
-/// How many pages memory has.
-const PAGES: u32 = 4096;
-
-/// How many bytes memory has.
-const MEMORY: u64 = 0x0100_0000;
-
-/// The log so far, with what the rules look at.
+/// A reader of a log, between two lines.
 #[derive(Drop)]
-pub struct Reader {
-    log: Log,
-    /// The page behind the last run.
-    next_page: u32,
-    /// How many pages the runs have.
-    mapped: u32,
-    ghost next: { next_page ≡ page_end (entries_of log) },
-    ghost counted: { mapped ≡ sum_by pages_in (entries_of log) },
-    ghost low: { next_page ≤ 4096 },
-    ghost few: { mapped ≤ 512 },
+pub struct LogReader {
+    tally: Tally,
+    /// The number of the next line, counted from 1.
+    line: u32,
+    /// How many bytes were read.
+    at: usize,
 }
 
-impl Reader {
-    /// No line yet.
-    pub fn new(alloc: Global, harts: u8) -> Reader
-        ensures { result.log ≡ empty_log harts }
+/// The header and the pages of a log, and the reader behind them.
+#[derive(Drop)]
+pub struct Opening {
+    pub harts: u8,
+    pub block: u8,
+    pub pages: PageRuns,
+    pub reader: LogReader,
+}
+
+/// A record line of a log.
+#[derive(Clone, Copy)]
+pub struct Row {
+    pub what: Record,
+    points: Points,
+}
+
+impl Row {
+    ghost use Rattle.std.specs.Prelude.{false, replicate, None};
+    ghost use Rattle.log_text.specs.Reading.{arcs_of};
+
+    /// Whether the record has arcs.
+    #[inline]
+    pub fn has_arcs(&self) -> bool
+        ensures { result ≡ false → arcs_of self.now.points ≡ replicate 8 None }
     {
-        Reader {
-            log: Log {
+        matches!(self.points, Points::Some(_))
+    }
+
+    /// The record with its arcs.
+    #[inline]
+    pub fn line(&self) -> Line
+        ensures { result ≡ line_of self.now }
+    {
+        Line {
+            what: self.what,
+            arcs: self.points.arcs(),
+        }
+    }
+}
+
+impl LogReader {
+    /// Reads the header and the pages of a log.
+    pub fn open(alloc: Global, bytes: &[u8]) -> Result<Opening, LogRefused>
+        requires { length bytes.now < 2 ^ 31 }
+        ensures inside { IfOk result (λ opening. opening.reader.at ≤ length bytes.now) }
+        ensures harts { IfOk result (λ opening. (1 ≤ opening.harts) × (opening.harts ≤ 8)) }
+        ensures pages { IfOk result (λ opening. All (λ run. run.first + run.count ≤ 4096) opening.pages) }
+        ensures ok { IfOk result (λ opening. HasRead opening.reader bytes.now (opened opening)) }
+        ensures fault { IfFault result (IsNoLog bytes.now) }
+    {
+        let Some((harts, block, rest)) = header_at(bytes) else {
+            return Err(LogRefused::Fault(LogFault {
+                line: 1,
+                cause: LogCause::Header,
+            }));
+        };
+        let mut reader = LogReader {
+            tally: Tally::new(alloc, harts)?,
+            line: 2,
+            at: bytes.len() - rest.len(),
+        };
+        match reader.read_pages(alloc, bytes) {
+            Ok(pages) => Ok(Opening {
                 harts,
-                block: 16,
-                pages: PageRuns::new(alloc),
-                lines: Lines::new(alloc),
-            },
-            next_page: 0,
-            mapped: 0,
+                block,
+                pages,
+                reader,
+            }),
+            Err(refused) => Err(refused),
         }
     }
 
-    /// The first rule that the line breaks behind those so far.
-    pub fn judge(&self, item: Item) -> Option<Rule>
-        ensures { result ≡ broken self.now.log.harts (entries_of self.now.log) (entry_from item) }
+    /// Reads the runs of pages behind the header.
+    fn read_pages(&mut self, alloc: Global, bytes: &[u8]) -> Result<PageRuns, LogRefused>
+        requires few { length bytes.now < 2 ^ 31 }
+        requires start { self.old.at ≤ length bytes.now }
+        ensures inside { self.new.at ≤ length bytes.now }
+        ensures pages { (log : Log) → log.pages ≡ [] → log.lines ≡ [] → IsReadBy self.old bytes.now log → IfOk result (λ pages. HasRead self.new bytes.now (record log { pages = pages })) }
+        ensures fault { (log : Log) → log.pages ≡ [] → log.lines ≡ [] → IsReadBy self.old bytes.now log → IfFault result (IsNoLog bytes.now) }
     {
-        match item {
-            Item::Page(run) => self.judge_page(run),
-            Item::Row(what) => self.judge_record(what),
+        let mut pages = PageRuns::new(alloc);
+        let (_, mut rest) = bytes.split_at(self.at);
+        'pages: while let Some((run, after)) = page_at(rest) {
+            if let Some(cause) = judge_page(&self.tally, run) {
+                return Err(LogRefused::Fault(self.fault(cause)));
+            }
+            pages.push(run)?;
+            self.tally.add_page(run);
+            self.pass(bytes, after);
+            rest = after;
         }
+        Ok(pages)
     }
 
-    fn judge_page(&self, run: PageRun) -> Option<Rule>
-        ensures { result ≡ broken self.now.log.harts (entries_of self.now.log) (entry_from (Item.Page run)) }
+    /// The next record line, or none at the end of a log. After a fault nothing is said of the reader.
+    #[inline]
+    pub fn next(&mut self, bytes: &[u8]) -> Result<Option<Row>, LogFault>
+        requires few { length bytes.now < 2 ^ 31 }
+        requires start { self.old.at ≤ length bytes.now }
+        ensures inside { self.new.at ≤ length bytes.now }
+        ensures further { IfRow result (λ _. self.old.at < self.new.at) }
+        ensures row { (log : Log) → HasRead self.old bytes.now log → IfRow result (ReadsRow self.new bytes.now log) }
+        ensures end { (log : Log) → HasRead self.old bytes.now log → IfEnd result (IsOnly bytes.now log) }
+        ensures fault { (log : Log) → HasRead self.old bytes.now log → IfErr result (IsNoLog bytes.now) }
     {
-        if self.breaks_page(run) {
-            Some(Rule::Page)
+        let (_, rest) = bytes.split_at(self.at);
+        let Some((what, points, after)) = row_at(rest) else {
+            return self.finish(rest);
+        };
+        if let Some(cause) = judge_row(&self.tally, what, &points) {
+            return Err(self.fault(cause));
+        }
+        self.tally.add_row(what);
+        self.pass(bytes, after);
+        Ok(Some(Row { what, points }))
+    }
+
+    /// Takes note that a line was read up to what stands behind it.
+    #[inline]
+    fn pass(&mut self, bytes: &[u8], after: &[u8])
+        requires { length after.now ≤ length bytes.now }
+        ensures { self.new ≡ record self.old { line = (self.old.line + 1) % 2 ^ 32; at = length bytes.now - length after.now } }
+    {
+        self.line = self.line.wrapping_add(1);
+        self.at = bytes.len() - after.len();
+    }
+
+    /// What it means that no record line begins the rest: the end, a run of pages behind a record, or no line.
+    fn finish(&self, rest: &[u8]) -> Result<Option<Row>, LogFault>
+        ensures none { IfRow result (λ _. ⊥) }
+        ensures end { (bytes : List ℕ) (log : Log) → HasRead self.now bytes log → rest.now ≡ drop self.now.at bytes → BeginsWithNoRow rest.now → IfEnd result (IsOnly bytes log) }
+        ensures fault { (bytes : List ℕ) (log : Log) → length bytes < 2 ^ 31 → HasRead self.now bytes log → rest.now ≡ drop self.now.at bytes → BeginsWithNoRow rest.now → IfErr result (IsNoLog bytes) }
+    {
+        if rest.is_empty() {
+            return if some_is_open(&self.tally) {
+                Err(self.fault(LogCause::Open))
+            } else {
+                Ok(None)
+            };
+        }
+        if page_at(rest).is_some() {
+            Err(self.fault(LogCause::Page))
         } else {
-            None
+            Err(self.fault(LogCause::Form))
         }
     }
 
-    fn judge_record(&self, what: Record) -> Option<Rule>
-        ensures { result ≡ broken self.now.log.harts (entries_of self.now.log) (entry_from (Item.Row what)) }
+    fn fault(&self, cause: LogCause) -> LogFault
+        ensures { result ≡ record { line = self.now.line; cause = cause } }
     {
-        if self.breaks_records() {
-            return Some(Rule::Records);
-        }
-        if self.breaks_hart(what) {
-            return Some(Rule::Hart);
-        }
-        if breaks_access(what) {
-            return Some(Rule::Access);
-        }
-        if breaks_range(what) {
-            return Some(Rule::Range);
-        }
-        None
-    }
-
-    fn breaks_page(&self, run: PageRun) -> bool
-        ensures { result ≡ breaks_page (entries_of self.now.log) run }
-    {
-        let first = u32::from(run.first);
-        let count = u32::from(run.count);
-        self.has_records()
-            || first < self.next_page
-            || first + count > PAGES
-            || self.mapped + count > MAX_MAPPED
-    }
-
-    fn has_records(&self) -> bool
-        ensures { result ≡ list_any is_row (entries_of self.now.log) }
-    {
-        self.log.lines.len() != 0
-    }
-
-    fn breaks_records(&self) -> bool
-        ensures { result ≡ nat_le 2000000 (count_by is_row (entries_of self.now.log)) }
-    {
-        self.log.lines.len() >= MAX_RECORDS
-    }
-
-    fn breaks_hart(&self, what: Record) -> bool
-        ensures { result ≡ nat_le self.now.log.harts (hart_of what) }
-    {
-        record_hart(&what) >= self.log.harts
-    }
-
-    /// One more line, which breaks no rule. Without memory the lines stay.
-    pub fn add(&mut self, item: Item) -> Result<(), AllocError>
-        requires { broken self.old.log.harts (entries_of self.old.log) (entry_from item) ≡ None }
-        ensures ok { OnOk result (self.new.log ≡ with_item self.old.log item) }
-        ensures err { OnErr result (self.new.log ≡ self.old.log) }
-    {
-        match item {
-            Item::Page(run) => self.add_page(run),
-            Item::Row(what) => self.add_record(what),
+        LogFault {
+            line: self.line,
+            cause,
         }
     }
-
-    fn add_page(&mut self, run: PageRun) -> Result<(), AllocError>
-        requires { breaks_page (entries_of self.old.log) run ≡ false }
-        ensures ok { OnOk result (self.new.log ≡ with_item self.old.log (Item.Page run)) }
-        ensures err { OnErr result (self.new.log ≡ self.old.log) }
-    {
-        self.log.pages.push(run)?;
-        self.next_page = u32::from(run.first) + u32::from(run.count);
-        self.mapped += u32::from(run.count);
-        Ok(())
-    }
-
-    fn add_record(&mut self, what: Record) -> Result<(), AllocError>
-        ensures ok { OnOk result (self.new.log ≡ with_item self.old.log (Item.Row what)) }
-        ensures err { OnErr result (self.new.log ≡ self.old.log) }
-    {
-        self.log.lines.push_record(what)
-    }
-
-    /// The log of the lines so far.
-    pub fn into_log(self) -> Log
-        ensures { result ≡ self.log }
-    {
-        let Reader {
-            log,
-            next_page: _,
-            mapped: _,
-        } = self;
-        log
-    }
-}
-
-fn breaks_access(what: Record) -> bool
-    ensures { result ≡ on_event is_misaligned what }
-{
-    match what {
-        Record::Event(event) => is_misaligned(event.kind),
-        Record::Notice { .. } => false,
-    }
-}
-
-fn is_misaligned(kind: Kind) -> bool
-    ensures { result ≡ is_misaligned kind }
-{
-    match kind {
-        Kind::Ld { width, addr, .. } => !is_load_aligned(addr, width),
-        Kind::St { width, addr, .. } => !is_store_aligned(addr, width),
-        _ => false,
-    }
-}
-
-fn is_load_aligned(addr: u32, width: LoadWidth) -> bool
-    ensures { result ≡ ((addr % load_bytes width) == 0) }
-{
-    match width {
-        LoadWidth::B | LoadWidth::Bu => true,
-        LoadWidth::H | LoadWidth::Hu => addr % 2 == 0,
-        LoadWidth::W => addr % 4 == 0,
-    }
-}
-
-fn is_store_aligned(addr: u32, width: StoreWidth) -> bool
-    ensures { result ≡ ((addr % store_bytes width) == 0) }
-{
-    match width {
-        StoreWidth::B => true,
-        StoreWidth::H => addr % 2 == 0,
-        StoreWidth::W => addr % 4 == 0,
-    }
-}
-
-fn breaks_range(what: Record) -> bool
-    ensures { result ≡ on_event passes_end what }
-{
-    match what {
-        Record::Event(event) => passes_end(event.kind),
-        Record::Notice { .. } => false,
-    }
-}
-
-fn passes_end(kind: Kind) -> bool
-    ensures { result ≡ passes_end kind }
-{
-    match kind {
-        Kind::Al { addr, len } | Kind::Fr { addr, len } => is_past(addr, len),
-        Kind::Rd { addr, len } | Kind::Wr { addr, len } => is_past(addr, len),
-        _ => false,
-    }
-}
-
-fn is_past(addr: u32, len: u32) -> bool
-    ensures { result ≡ nat_lt (2 ^ 24) (addr + len) }
-{
-    u64::from(addr) + u64::from(len) > MEMORY
 }

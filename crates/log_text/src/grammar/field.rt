@@ -2,10 +2,10 @@ ghost use Rattle.std.specs.Prelude.{◌≡◌, ◌<◌, ◌≤◌, ◌^◌, ℕ,
 ghost use Rattle.pl_event.specs.Valid.{IsRegister};
 ghost use Rattle.std.specs.Fmt.{decimal};
 ghost use Rattle.log_text.specs.Form.{IsBlock, IsPages};
-ghost use Rattle.log_text.specs.Spelling.{hex, load_word, store_word, page_word};
-ghost use Rattle.log_text.specs.Reads.{Reads, IsAny, IsFrom, IsAccess, number_word, access_words};
+ghost use Rattle.log_text.specs.Spelling.{hex, load_word, store_word, fault_word, page_word};
+ghost use Rattle.log_text.specs.Reads.{Reads, IsAny, IsFrom, IsAccess, AreTwo, AreThree, number_word, access_words, two_words, three_words};
 
-use pl_base::{LoadWidth, StoreWidth};
+use pl_base::{FaultCause, LoadWidth, StoreWidth};
 use pl_event::PageKind;
 use pl_text::{after_byte, after_word, decimal_at, first_byte, hex_at};
 
@@ -42,6 +42,33 @@ pub fn address(text: &[u8]) -> Option<(u32, &[u8])>
 {
     let rest = after_byte(text, b' ')?;
     hex_at(rest, 0x00ff_ffff)
+}
+
+/// A number of 32 bits in base 16.
+pub fn long_address(text: &[u8]) -> Option<(u32, &[u8])>
+    ensures { Reads (λ addr. addr < 2 ^ 32) (λ addr. hex addr ∷ []) text.now result }
+{
+    let rest = after_byte(text, b' ')?;
+    hex_at(rest, u32::MAX)
+}
+
+/// Two registers.
+pub fn two_registers(text: &[u8]) -> Option<((u8, u8), &[u8])>
+    ensures { Reads AreTwo two_words text.now result }
+{
+    let (first, rest) = register(text)?;
+    let (second, rest) = register(rest)?;
+    Some(((first, second), rest))
+}
+
+/// Three registers.
+pub fn three_registers(text: &[u8]) -> Option<((u8, u8, u8), &[u8])>
+    ensures { Reads AreThree three_words text.now result }
+{
+    let (first, rest) = register(text)?;
+    let (second, rest) = register(rest)?;
+    let (third, rest) = register(rest)?;
+    Some(((first, second, third), rest))
 }
 
 /// The address of a block and how many bytes it has.
@@ -107,6 +134,24 @@ pub fn store_width(text: &[u8]) -> Option<(StoreWidth, &[u8])>
         b'h' => Some((StoreWidth::H, rest)),
         b'w' => Some((StoreWidth::W, rest)),
         _ => None,
+    }
+}
+
+/// Why a hart faulted.
+pub fn fault_cause(text: &[u8]) -> Option<(FaultCause, &[u8])>
+    ensures { Reads IsAny (λ cause. fault_word cause ∷ []) text.now result }
+{
+    if let Some(rest) = after_word(text, b" pc") {
+        Some((FaultCause::Pc, rest))
+    } else if let Some(rest) = after_word(text, b" illegal") {
+        Some((FaultCause::Illegal, rest))
+    } else if let Some(rest) = after_word(text, b" align") {
+        Some((FaultCause::Align, rest))
+    } else if let Some(rest) = after_word(text, b" unmapped") {
+        Some((FaultCause::Unmapped, rest))
+    } else {
+        let rest = after_word(text, b" readonly")?;
+        Some((FaultCause::ReadOnly, rest))
     }
 }
 

@@ -1,38 +1,30 @@
-ghost use Rattle.std.specs.Prelude.{◌∷◌};
-ghost use Rattle.log_text.specs.Form.{IsRecordInForm};
+ghost use Rattle.std.specs.Prelude.{◌∷◌, IfSome, IfNone};
+ghost use Rattle.log_text.specs.Form.{IsRecordInForm, most_read};
 ghost use Rattle.log_text.specs.Spelling.{record_words};
-ghost use Rattle.log_text.specs.Reads.{Reads, IsItem, IsPageRun, item_words, page_words};
+ghost use Rattle.log_text.specs.Reads.{Reads, IsPageRun, page_words};
 
+use super::arcs::point_at;
 use super::field::{hart, page_kind, pages};
 use super::kind::kind_at;
-use crate::item::Item;
 use pl_event::{Event, PageRun, Record};
-use pl_text::{after_byte, after_word};
+use pl_text::after_word;
 
-/// The words of a line in form.
+/// The words of a record, without its arcs.
 #[inline(always)]
-pub fn words_at(text: &[u8]) -> Option<(Item, &[u8])>
-    ensures { Reads IsItem item_words (32 ∷ text.now) result }
-{
-    if after_byte(text, b'h').is_some() {
-        let (what, rest) = record(text)?;
-        Some((Item::Row(what), rest))
-    } else {
-        let (run, rest) = page_run(text)?;
-        Some((Item::Page(run), rest))
-    }
-}
-
-#[inline(always)]
-fn record(text: &[u8]) -> Option<(Record, &[u8])>
-    ensures { Reads IsRecordInForm record_words (32 ∷ text.now) result }
+pub fn record(text: &[u8]) -> Option<(Record, &[u8])>
+    ensures { Reads (IsRecordInForm most_read) record_words (32 ∷ text.now) result }
 {
     let (hart, rest) = hart(text)?;
+    if let Some(rest) = after_word(rest, b" ! ") {
+        let (of, rest) = point_at(rest)?;
+        return Some((Record::Notice { hart, of }, rest));
+    }
     let (kind, rest) = kind_at(rest)?;
     Some((Record::Event(Event { hart, kind }), rest))
 }
 
-fn page_run(text: &[u8]) -> Option<(PageRun, &[u8])>
+/// The words of a line of pages.
+pub fn page_run(text: &[u8]) -> Option<(PageRun, &[u8])>
     ensures { Reads IsPageRun page_words (32 ∷ text.now) result }
 {
     let rest = after_word(text, b"page")?;

@@ -1,0 +1,95 @@
+-- How far the bytes of a log were read.
+use Rattle.std.specs.Prelude.{◌≡◌, ℕ, ◌+◌, ◌<◌, ◌≤◌, List, [], ◌∷◌, ◌++◌, length, drop, replicate, false, Option, Some, None, All, Result, Ok, Err}
+use Rattle.pl_event.specs.declared.log.Line.{Line}
+use Rattle.pl_event.specs.declared.log.Log.{Log}
+use Rattle.pl_event.specs.declared.log.PageRun.{PageRun}
+use Rattle.log_text.specs.declared.cause.LogFault.{LogFault}
+use Rattle.log_text.specs.declared.points.Points.{Points}
+use Rattle.log_text.specs.declared.points.Points.TheVariants as arcs
+use Rattle.log_text.specs.declared.reader.LogReader.{LogReader}
+use Rattle.log_text.specs.declared.reader.Opening.{Opening}
+use Rattle.log_text.specs.declared.reader.Row.{Row}
+use Rattle.std.specs.List.{list_any}
+use Rattle.log_text.specs.Begins.{BeginsWithNoPage}
+use Rattle.log_text.specs.Form.{most_read}
+use Rattle.log_text.specs.Parts.{IsValidLine}
+use Rattle.log_text.specs.Spelling.{Entry, header_text, line_text, entries_text, entries_of}
+use Rattle.log_text.specs.Tally.{Keeps}
+use Rattle.log_text.specs.WellFormed.{IsBlockSize, is_row, IsLawful, IsLogText, IsFirstFault, rules_in_order}
+
+-- another log of the bytes has the same lines so far
+pub record IsAlike (harts block : ℕ) (before : List Entry) (rest : List ℕ) (other : Log) : Type 0 where
+  pub same : other.harts ≡ harts
+  pub size : other.block ≡ block
+  pub tail : List Entry
+  pub parted : entries_of other ≡ before ++ tail
+  pub left : rest ≡ entries_text tail
+
+-- the lines of the log stand behind its header, with the rest behind them, and in no other way
+pub record IsRead (bytes rest : List ℕ) (log : Log) : Type 0 where
+  pub some : 1 ≤ log.harts
+  pub few : log.harts ≤ 8
+  pub size : IsBlockSize log.block
+  pub eight : All (λ line. length line.arcs ≡ 8) log.lines
+  pub spelled : bytes ≡ line_text (header_text log.harts log.block) ++ entries_text (entries_of log) ++ rest
+  pub lawful : IsLawful rules_in_order most_read log.harts (entries_of log)
+  pub only : (other : Log) → IsLogText bytes other → IsAlike log.harts log.block (entries_of log) rest other
+
+-- the reader has read the lines of the log
+pub record IsReadBy (reader : LogReader) (bytes : List ℕ) (log : Log) : Type 0 where
+  pub read : IsRead bytes (drop reader.at bytes) log
+  pub keeps : Keeps reader.tally (entries_of log)
+  pub harts : reader.tally.harts ≡ log.harts
+  pub line : reader.line ≡ length (entries_of log) + 2
+
+-- and all runs of pages
+pub record HasRead (reader : LogReader) (bytes : List ℕ) (log : Log) : Type 0 where
+  pub by : IsReadBy reader bytes log
+  pub begun : list_any is_row (entries_of log) ≡ false → BeginsWithNoPage (drop reader.at bytes)
+
+-- the log of a header and its pages, with no record yet
+abbrev pub opened : Opening → Log
+opened opening = record { harts = opening.harts; block = opening.block; pages = opening.pages; lines = [] }
+
+-- the line of a row
+abbrev pub arcs_of : Points → List (Option ℕ)
+arcs_of arcs.None = replicate 8 None
+arcs_of (arcs.Some list) = list.arcs
+
+abbrev pub line_of : Row → Line
+line_of row = record { what = row.what; arcs = arcs_of row.points }
+
+-- one more line
+abbrev pub with_line : Log → Line → Log
+with_line log line = record log { lines = log.lines ++ line ∷ [] }
+
+-- one more run of pages
+abbrev pub with_pages : Log → PageRun → Log
+with_pages log run = record log { pages = log.pages ++ run ∷ [] }
+
+-- the log of the lines so far and that one, which the reader has read then
+pub record ReadsRow (reader : LogReader) (bytes : List ℕ) (log : Log) (row : Row) : Type 0 where
+  pub read : HasRead reader bytes (with_line log (line_of row))
+  pub valid : IsValidLine log.harts (line_of row)
+  pub room : length log.lines < 2000000
+
+-- the bytes are the log's, and no other's
+pub record IsOnly (bytes : List ℕ) (log : Log) : Type 0 where
+  pub text : IsLogText bytes log
+  pub one : (other : Log) → IsLogText bytes other → other ≡ log
+
+-- the fault is the first one, and no log has these bytes
+pub record IsNoLog (bytes : List ℕ) (fault : LogFault) : Type 0 where
+  pub first : IsFirstFault bytes fault
+  pub none : (log : Log) → IsLogText bytes log → ⊥
+
+-- what holds of a row, of the end and of a fault
+abbrev pub IfRow : Result (Option Row) LogFault → (Row → Type 0) → Type 0
+IfRow (Ok (Some row)) P = P row
+IfRow (Ok None) P = Unit {0}
+IfRow (Err fault) P = Unit {0}
+
+abbrev pub IfEnd : Result (Option Row) LogFault → Type 0 → Type 0
+IfEnd (Ok (Some row)) P = Unit {0}
+IfEnd (Ok None) P = P
+IfEnd (Err fault) P = Unit {0}

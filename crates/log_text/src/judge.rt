@@ -1,0 +1,339 @@
+//! The rules, one function each: whether a line breaks it behind the lines that a tally stands for.
+//!
+//! A hart that the run has is below 8, so its remainder by 8 is itself; taken as an index, it needs no test.
+
+ghost use Rattle.std.specs.Prelude.{◌≡◌, ◌<◌, ◌≤◌, ◌+◌, ◌%◌, ◌^◌, ◌==◌, ◌||◌, ◌&&◌, ◌∷◌, List, ℕ, true, false, not, Some, None, nat_le, nat_lt, find, is_some, slice_index_or, length};
+ghost use Rattle.std.specs.List.{list_any};
+ghost use Rattle.pl_base.specs.Widths.{load_bytes, store_bytes};
+ghost use Rattle.pl_event.specs.declared.log.Point.{Point};
+ghost use Rattle.pl_event.specs.Alerts.{is_alert_kind};
+ghost use Rattle.pl_event.specs.Numbers.{hart_of};
+ghost use Rattle.log_text.specs.Arcs.{ShowsPoints};
+ghost use Rattle.log_text.specs.Spelling.{Entry, row, page, points_from};
+ghost use Rattle.log_text.specs.Tally.{Keeps};
+ghost use Rattle.log_text.specs.WellFormed.{broken, breaks, rules_of_fields, breaks_page, breaks_records, breaks_hart, breaks_ended, breaks_arc, breaks_notice, names_past, is_waiting, is_awaited, records_in, is_bad_notice, is_notice, has_pending, on_event, is_misaligned, passes_end, is_bad_map, ends_hart};
+
+use crate::cause::LogCause;
+use crate::page_set::PAGES;
+use crate::points::Points;
+use crate::tally::Tally;
+use pl_base::{LoadWidth, StoreWidth};
+use pl_event::{Arcs, Kind, PageRun, Point, Record, is_alert, record_hart};
+
+/// How many records a log can have.
+const MAX_RECORDS: u32 = 2_000_000;
+
+/// How many pages can be mapped.
+const MAX_MAPPED: u64 = 512;
+
+/// How many bytes memory has.
+const MEMORY: u64 = 0x0100_0000;
+
+/// The first rule that a run of pages breaks behind the lines so far.
+pub fn judge_page(tally: &Tally, run: PageRun) -> Option<LogCause>
+    ensures { (before : List Entry) → Keeps tally.now before → result ≡ broken tally.now.harts before (page run) }
+{
+    if is_misplaced(tally, run) {
+        Some(LogCause::Page)
+    } else {
+        None
+    }
+}
+
+fn is_misplaced(tally: &Tally, run: PageRun) -> bool
+    ensures { (before : List Entry) → Keeps tally.now before → result ≡ breaks_page before run }
+{
+    let first = u32::from(run.first);
+    let end = first + u32::from(run.count);
+    let mapped = u64::from(tally.pages.count()) + u64::from(run.count);
+    (tally.records != 0) | (first < tally.next_page) | (end > PAGES) | (mapped > MAX_MAPPED)
+}
+
+/// The first rule that a record breaks behind the lines so far.
+#[inline]
+pub fn judge_row(tally: &Tally, what: Record, points: &Points) -> Option<LogCause>
+    ensures { (before : List Entry) (arcs : List Point) → Keeps tally.now before → ShowsPoints points.now arcs → result ≡ broken tally.now.harts before (row what arcs) }
+{
+    if tally.records >= MAX_RECORDS {
+        return Some(LogCause::Records);
+    }
+    if is_past_harts(tally, what, points) {
+        return Some(LogCause::Hart);
+    }
+    if is_after_end(tally, what) {
+        return Some(LogCause::Ended);
+    }
+    if is_open(tally, record_hart(&what)) {
+        return Some(LogCause::Open);
+    }
+    if has_bad_arcs(tally, what, points) {
+        return Some(LogCause::Arc);
+    }
+    if is_bad_record(tally, what) {
+        return Some(LogCause::Notice);
+    }
+    judge_fields(tally, what)
+}
+
+#[inline]
+fn judge_fields(tally: &Tally, what: Record) -> Option<LogCause>
+    ensures { (before : List Entry) → Keeps tally.now before → (harts : ℕ) (arcs : List Point) → result ≡ find (breaks harts before (row what arcs)) rules_of_fields }
+{
+    let Record::Event(event) = what else {
+        return None;
+    };
+    if is_off_width(event.kind) {
+        return Some(LogCause::Access);
+    }
+    if is_past_memory(event.kind) {
+        return Some(LogCause::Range);
+    }
+    if is_bad_mapping(tally, event.kind) {
+        return Some(LogCause::Map);
+    }
+    None
+}
+
+/// Whether the record is of a hart that the run does not have, or names one.
+#[inline]
+fn is_past_harts(tally: &Tally, what: Record, points: &Points) -> bool
+    ensures { (before : List Entry) (arcs : List Point) → Keeps tally.now before → ShowsPoints points.now arcs → result ≡ breaks_hart tally.now.harts what arcs }
+{
+    names_past(tally.harts, what) || is_list_past(tally.harts, points)
+}
+
+#[inline]
+fn names_past(harts: u8, what: Record) -> bool
+    ensures { result ≡ names_past harts what }
+{
+    match what {
+        Record::Event(event) => event.hart >= harts,
+        Record::Notice { hart, of } => hart >= harts || of.hart >= harts,
+    }
+}
+
+#[inline]
+fn is_list_past(harts: u8, points: &Points) -> bool
+    ensures { (arcs : List Point) → 1 ≤ harts → ShowsPoints points.now arcs → result ≡ list_any (λ point. nat_le harts point.hart) arcs }
+{
+    match points {
+        Points::None => false,
+        Points::Some(list) => list.highest >= harts,
+    }
+}
+
+/// Whether an event follows the end of its hart.
+#[inline]
+fn is_after_end(tally: &Tally, what: Record) -> bool
+    ensures { (before : List Entry) → Keeps tally.now before → names_past tally.now.harts what ≡ false → result ≡ breaks_ended before what }
+{
+    match what {
+        Record::Event(event) => tally.ended[usize::from(event.hart % 8)],
+        Record::Notice { .. } => false,
+    }
+}
+
+/// Whether a notice of the hart waits for its event.
+#[inline]
+fn is_open(tally: &Tally, hart: u8) -> bool
+    ensures { (before : List Entry) → Keeps tally.now before → hart < 8 → result ≡ is_waiting before hart }
+{
+    match tally.notices[usize::from(hart % 8)] {
+        Some(of) => is_to_come(tally, of),
+        None => false,
+    }
+}
+
+/// Whether a record has not come.
+#[inline]
+fn is_to_come(tally: &Tally, of: Point) -> bool
+    ensures { (before : List Entry) → Keeps tally.now before → of.hart < 8 → result ≡ nat_lt (records_in of.hart before) of.number }
+{
+    tally.numbers[usize::from(of.hart % 8)] < of.number
+}
+
+#[inline]
+fn has_bad_arcs(tally: &Tally, what: Record, points: &Points) -> bool
+    ensures { (before : List Entry) (arcs : List Point) → Keeps tally.now before → ShowsPoints points.now arcs → breaks_hart tally.now.harts what arcs ≡ false
+        → result ≡ breaks_arc before what arcs }
+{
+    match points {
+        Points::None => false,
+        Points::Some(list) => {
+            !list.rising || some_arc_is_bad(&list.arcs, record_hart(&what), &tally.numbers)
+        }
+    }
+}
+
+/// Whether an arc is of the own hart, or from a record that has not come.
+fn some_arc_is_bad(arcs: &Arcs, own: u8, numbers: &[u32; 8]) -> bool
+    ensures { length arcs.now ≡ 8 → result ≡ list_any (λ point. (point.hart == own) || nat_lt (slice_index_or numbers.now point.hart 0) point.number) (points_from 0 arcs.now) }
+{
+    'harts: for hart in 0..8u8 {
+        if is_arc_bad(arcs.get(hart), hart, own, numbers) {
+            return true;
+        }
+    }
+    false
+}
+
+#[inline]
+fn is_arc_bad(arc: Option<u32>, hart: u8, own: u8, numbers: &[u32; 8]) -> bool
+    requires { hart < 8 }
+    ensures some { (number : ℕ) → arc ≡ Some number → result ≡ ((hart == own) || nat_lt (slice_index_or numbers.now hart 0) number) }
+    ensures none { arc ≡ None → result ≡ false }
+{
+    match arc {
+        Some(number) => hart == own || numbers[usize::from(hart)] < number,
+        None => false,
+    }
+}
+
+/// Whether a notice is of the own hart or of a record that has come, or a record that is named is no alert event.
+#[inline]
+fn is_bad_record(tally: &Tally, what: Record) -> bool
+    ensures { (before : List Entry) → Keeps tally.now before → names_past tally.now.harts what ≡ false → result ≡ breaks_notice before what }
+{
+    is_bad_notice(tally, what) || (is_expected(tally, record_hart(&what)) && !is_alert_record(what))
+}
+
+#[inline]
+fn is_bad_notice(tally: &Tally, what: Record) -> bool
+    ensures { (before : List Entry) → Keeps tally.now before → names_past tally.now.harts what ≡ false → result ≡ is_bad_notice before what }
+{
+    match what {
+        Record::Event(_) => false,
+        Record::Notice { hart, of } => of.hart == hart || !is_to_come(tally, of),
+    }
+}
+
+fn is_alert_record(what: Record) -> bool
+    ensures { result ≡ on_event is_alert_kind what }
+{
+    match what {
+        Record::Event(event) => is_alert(&event.kind),
+        Record::Notice { .. } => false,
+    }
+}
+
+/// Whether a notice names the next record of the hart.
+#[inline]
+fn is_expected(tally: &Tally, hart: u8) -> bool
+    ensures { (before : List Entry) → Keeps tally.now before → hart < 8 → result ≡ is_awaited before hart }
+{
+    let number = tally.numbers[usize::from(hart % 8)];
+    number < tally.named[usize::from(hart % 8)] && some_names(&tally.notices, hart, number)
+}
+
+/// Whether one of the notices is of the record behind that number of the hart.
+fn some_names(notices: &[Option<Point>; 8], hart: u8, number: u32) -> bool
+    ensures yes { result ≡ true → (own : ℕ) × (point : Point) × (own < 8) × (slice_index_or notices.now own None ≡ Some point) × (point.hart ≡ hart) × (point.number ≡ number + 1) }
+    ensures no { result ≡ false → (own : ℕ) (point : Point) → own < 8 → slice_index_or notices.now own None ≡ Some point → point.hart ≡ hart → point.number ≡ number + 1 → ⊥ }
+{
+    'harts: for own in 0..8usize {
+        if names(notices[own], hart, number) {
+            return true;
+        }
+    }
+    false
+}
+
+#[inline]
+fn names(notice: Option<Point>, hart: u8, number: u32) -> bool
+    ensures some { (point : Point) → notice ≡ Some point → result ≡ ((point.hart == hart) && (point.number == number + 1)) }
+    ensures none { notice ≡ None → result ≡ false }
+{
+    match notice {
+        Some(of) => of.hart == hart && u64::from(of.number) == u64::from(number) + 1,
+        None => false,
+    }
+}
+
+#[inline]
+fn is_off_width(kind: Kind) -> bool
+    ensures { result ≡ is_misaligned kind }
+{
+    match kind {
+        Kind::Ld { width, addr, .. } => !is_load_aligned(addr, width),
+        Kind::St { width, addr, .. } => !is_store_aligned(addr, width),
+        _ => false,
+    }
+}
+
+#[inline]
+fn is_load_aligned(addr: u32, width: LoadWidth) -> bool
+    ensures { result ≡ ((addr % load_bytes width) == 0) }
+{
+    match width {
+        LoadWidth::B | LoadWidth::Bu => true,
+        LoadWidth::H | LoadWidth::Hu => addr % 2 == 0,
+        LoadWidth::W => addr % 4 == 0,
+    }
+}
+
+#[inline]
+fn is_store_aligned(addr: u32, width: StoreWidth) -> bool
+    ensures { result ≡ ((addr % store_bytes width) == 0) }
+{
+    match width {
+        StoreWidth::B => true,
+        StoreWidth::H => addr % 2 == 0,
+        StoreWidth::W => addr % 4 == 0,
+    }
+}
+
+#[inline]
+fn is_past_memory(kind: Kind) -> bool
+    ensures { result ≡ passes_end kind }
+{
+    match kind {
+        Kind::Al { addr, len } | Kind::Fr { addr, len } => is_past(addr, len),
+        Kind::Rd { addr, len } | Kind::Wr { addr, len } => is_past(addr, len),
+        _ => false,
+    }
+}
+
+fn is_past(addr: u32, len: u32) -> bool
+    ensures { result ≡ nat_lt (2 ^ 24) (addr + len) }
+{
+    u64::from(addr) + u64::from(len) > MEMORY
+}
+
+#[inline]
+fn is_bad_mapping(tally: &Tally, kind: Kind) -> bool
+    ensures { (before : List Entry) → Keeps tally.now before → result ≡ is_bad_map before kind }
+{
+    match kind {
+        Kind::Mp { page, count } => is_bad_map(tally, u32::from(page), u32::from(count)),
+        Kind::Um { page, count } => is_bad_unmap(tally, u32::from(page), u32::from(count)),
+        _ => false,
+    }
+}
+
+fn is_bad_map(tally: &Tally, first: u32, count: u32) -> bool
+    requires { first + count < 2 ^ 32 }
+    ensures { (before : List Entry) → Keeps tally.now before → result ≡ is_bad_map before (Kind.Mp first count) }
+{
+    first + count > PAGES
+        || tally.pages.holds_some(first, count)
+        || u64::from(tally.pages.count()) + u64::from(count) > MAX_MAPPED
+}
+
+fn is_bad_unmap(tally: &Tally, first: u32, count: u32) -> bool
+    requires { first + count < 2 ^ 32 }
+    ensures { (before : List Entry) → Keeps tally.now before → result ≡ is_bad_map before (Kind.Um first count) }
+{
+    first + count > PAGES || tally.pages.lacks_some(first, count)
+}
+
+/// Whether a notice waits for its event.
+pub fn some_is_open(tally: &Tally) -> bool
+    ensures { (before : List Entry) → Keeps tally.now before → result ≡ has_pending before }
+{
+    'harts: for hart in 0..8u8 {
+        if is_open(tally, hart) {
+            return true;
+        }
+    }
+    false
+}

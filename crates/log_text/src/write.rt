@@ -1,0 +1,311 @@
+//! The one spelling of a log, line after line at the end of a text.
+
+ghost use Rattle.std.specs.Prelude.{◌≡◌, ◌++◌, ◌∷◌, ℕ, suc, true, List, Option, All, length, map, IfOk, OnOk, string_bytes};
+ghost use Rattle.std.specs.List.{join_with_byte};
+ghost use Rattle.pl_event.specs.declared.log.Line.{Line};
+ghost use Rattle.log_text.specs.Spelling.{page, row_of, kind_words, record_words, load_word, store_word, fault_word, page_word, point_word, header_text, line_text, entry_text, entries_text, log_spelling, points_from};
+ghost use Rattle.log_text.specs.WellFormed.{IsWellFormed, IsWritable, IsLogText};
+ghost use Rattle.log_text.specs.Writing.{arcs_text};
+
+use pl_base::{FaultCause, LoadWidth, NoMemory, StoreWidth};
+use pl_event::{Arcs, Kind, Line, Lines, Log, PageKind, PageRun, Point, Record};
+use std::alloc::{AllocError, Global};
+
+/// The text of a log. It may have any number of records, and their numbers may be any of 32 bits; the text of a log that
+/// is well-formed is read as that log.
+pub fn write_log(alloc: Global, log: &Log) -> Result<Vec<u8>, NoMemory>
+    requires { IsWritable log.now }
+    ensures text { IfOk result (λ text. text.items ≡ log_spelling log.now) }
+    ensures back { IsWellFormed log.now → IfOk result (λ text. IsLogText text.items log.now) }
+{
+    let mut out = String::new(alloc);
+    write_header(&mut out, log.harts, log.block)?;
+    write_pages(&mut out, log.pages.as_slice())?;
+    write_lines(&mut out, &log.lines)?;
+    Ok(out.into_bytes())
+}
+
+fn write_header(out: &mut String, harts: u8, block: u8) -> Result<(), AllocError>
+    ensures { OnOk result (string_bytes out.new ≡ string_bytes out.old ++ line_text (header_text harts block)) }
+{
+    let version = if block == 16 { 1 } else { 2 };
+    write!(out, "PLOG {version} harts {harts} block {block}\n")
+}
+
+fn write_pages(out: &mut String, pages: &[PageRun]) -> Result<(), AllocError>
+    ensures { OnOk result (string_bytes out.new ≡ string_bytes out.old ++ entries_text (map page pages.now)) }
+{
+    'pages: for run in pages {
+        write_page(out, *run)?;
+    }
+    Ok(())
+}
+
+fn write_page(out: &mut String, run: PageRun) -> Result<(), AllocError>
+    ensures { OnOk result (string_bytes out.new ≡ string_bytes out.old ++ line_text (entry_text (page run))) }
+{
+    let PageRun { first, count, kind } = run;
+    let word = page_word(kind);
+    write!(out, "page {first} {count} {word}\n")
+}
+
+fn page_word(kind: PageKind) -> &'static str
+    ensures { result.now ≡ page_word kind }
+{
+    match kind {
+        PageKind::Data => "data",
+        PageKind::Heap => "heap",
+        PageKind::Stack => "stack",
+    }
+}
+
+fn write_lines(out: &mut String, lines: &Lines) -> Result<(), AllocError>
+    requires { All (λ line. length line.arcs ≡ 8) lines.now }
+    ensures { OnOk result (string_bytes out.new ≡ string_bytes out.old ++ entries_text (map row_of lines.now)) }
+{
+    'lines: for i in 0..lines.len() {
+        write_line(out, &lines.get(i))?;
+    }
+    Ok(())
+}
+
+fn write_line(out: &mut String, line: &Line) -> Result<(), AllocError>
+    requires { length line.now.arcs ≡ 8 }
+    ensures { OnOk result (string_bytes out.new ≡ string_bytes out.old ++ line_text (entry_text (row_of line.now))) }
+{
+    write_record(out, line.what)?;
+    write_arcs(out, &line.arcs)?;
+    out.push_str("\n")
+}
+
+fn write_record(out: &mut String, what: Record) -> Result<(), AllocError>
+    ensures { OnOk result (string_bytes out.new ≡ string_bytes out.old ++ join_with_byte 32 (record_words what)) }
+{
+    match what {
+        Record::Event(event) => {
+            let hart = event.hart;
+            write!(out, "h{hart} ")?;
+            write_kind(out, event.kind)
+        }
+        Record::Notice { hart, of } => {
+            write!(out, "h{hart} ! ")?;
+            write_point(out, of)
+        }
+    }
+}
+
+fn write_point(out: &mut String, point: Point) -> Result<(), AllocError>
+    ensures { OnOk result (string_bytes out.new ≡ string_bytes out.old ++ point_word point) }
+{
+    let Point { hart, number } = point;
+    write!(out, "{hart}:{number}")
+}
+
+fn write_kind(out: &mut String, kind: Kind) -> Result<(), AllocError>
+    ensures { OnOk result (string_bytes out.new ≡ string_bytes out.old ++ join_with_byte 32 (kind_words kind)) }
+{
+    match kind {
+        Kind::Ld {
+            width,
+            rd,
+            rb,
+            addr,
+        } => write_load(out, width, rd, rb, addr),
+        Kind::St {
+            width,
+            rv,
+            rb,
+            addr,
+        } => write_store(out, width, rv, rb, addr),
+        Kind::Op { rd, r1, r2 } => write!(out, "op {rd} {r1} {r2}"),
+        Kind::Mv { rd, rs } => write!(out, "mv {rd} {rs}"),
+        Kind::Im { rd } => write!(out, "im {rd}"),
+        Kind::Br { r1, r2 } => write!(out, "br {r1} {r2}"),
+        Kind::Jr { rd, rs } => write!(out, "jr {rd} {rs}"),
+        Kind::Al { addr, len } => write!(out, "al {addr:x} {len}"),
+        Kind::Fr { addr, len } => write!(out, "fr {addr:x} {len}"),
+        Kind::Bf { addr } => write!(out, "bf {addr:x}"),
+        Kind::Mp { page, count } => write!(out, "mp {page} {count}"),
+        Kind::Um { page, count } => write!(out, "um {page} {count}"),
+        Kind::Rd { addr, len } => write!(out, "rd {addr:x} {len}"),
+        Kind::Wr { addr, len } => write!(out, "wr {addr:x} {len}"),
+        Kind::Ex => out.push_str("ex"),
+        Kind::Ft { cause, addr } => write_fault(out, cause, addr),
+    }
+}
+
+fn write_load(
+    out: &mut String,
+    width: LoadWidth,
+    rd: u8,
+    rb: u8,
+    addr: u32,
+) -> Result<(), AllocError>
+    ensures { OnOk result (string_bytes out.new ≡ string_bytes out.old ++ join_with_byte 32 (kind_words (Kind.Ld width rd rb addr))) }
+{
+    let word = load_word(width);
+    write!(out, "ld {word} {rd} {rb} {addr:x}")
+}
+
+fn load_word(width: LoadWidth) -> &'static str
+    ensures { result.now ≡ load_word width }
+{
+    match width {
+        LoadWidth::B => "b",
+        LoadWidth::H => "h",
+        LoadWidth::W => "w",
+        LoadWidth::Bu => "bu",
+        LoadWidth::Hu => "hu",
+    }
+}
+
+fn write_store(
+    out: &mut String,
+    width: StoreWidth,
+    rv: u8,
+    rb: u8,
+    addr: u32,
+) -> Result<(), AllocError>
+    ensures { OnOk result (string_bytes out.new ≡ string_bytes out.old ++ join_with_byte 32 (kind_words (Kind.St width rv rb addr))) }
+{
+    let word = store_word(width);
+    write!(out, "st {word} {rv} {rb} {addr:x}")
+}
+
+fn store_word(width: StoreWidth) -> &'static str
+    ensures { result.now ≡ store_word width }
+{
+    match width {
+        StoreWidth::B => "b",
+        StoreWidth::H => "h",
+        StoreWidth::W => "w",
+    }
+}
+
+fn write_fault(out: &mut String, cause: FaultCause, addr: u32) -> Result<(), AllocError>
+    ensures { OnOk result (string_bytes out.new ≡ string_bytes out.old ++ join_with_byte 32 (kind_words (Kind.Ft cause addr))) }
+{
+    let word = fault_word(cause);
+    write!(out, "ft {word} {addr:x}")
+}
+
+fn fault_word(cause: FaultCause) -> &'static str
+    ensures { result.now ≡ fault_word cause }
+{
+    match cause {
+        FaultCause::Pc => "pc",
+        FaultCause::Illegal => "illegal",
+        FaultCause::Align => "align",
+        FaultCause::Unmapped => "unmapped",
+        FaultCause::ReadOnly => "readonly",
+    }
+}
+
+/// The arcs that are set, by rising hart.
+fn write_arcs(out: &mut String, arcs: &Arcs) -> Result<(), AllocError>
+    requires { length arcs.now ≡ 8 }
+    ensures { OnOk result (string_bytes out.new ≡ string_bytes out.old ++ arcs_text true (points_from 0 arcs.now)) }
+{
+    let mut first = true;
+    'harts: for hart in 0..8 {
+        first = write_arc(out, first, hart, arcs.get(hart))?;
+    }
+    Ok(())
+}
+
+/// One arc, if it is set, behind what goes before the first one or before a further one. Tells whether the next arc is
+/// still the first.
+fn write_arc(
+    out: &mut String,
+    first: bool,
+    hart: u8,
+    number: Option<u32>,
+) -> Result<bool, AllocError>
+    ensures { (rest : List (Option ℕ)) → IfOk result (λ still. string_bytes out.new ++ arcs_text still (points_from (suc hart) rest) ≡ string_bytes out.old ++ arcs_text first (points_from hart (number ∷ rest))) }
+{
+    let Some(number) = number else {
+        return Ok(first);
+    };
+    let front = if first { " < " } else { "," };
+    write!(out, "{front}{hart}:{number}")?;
+    Ok(false)
+}
+
+#[cfg(test)]
+mod tests {
+    use super::*;
+    use crate::read::read_log;
+    use pl_event::Event;
+    use std::process::Abort;
+    use std::test::Fail;
+
+    /// Writes this line of hart 1.
+    fn writes<R: Abort>(rt: &R, alloc: Global, kind: Kind, text: &str) -> Result<(), Fail> {
+        let mut out = String::new(alloc);
+        write_record(&mut out, Record::Event(Event { hart: 1, kind }))?;
+        assert_eq!(rt; out.as_str(), text);
+        Ok(())
+    }
+
+    #[test]
+    fn spells_an_event(rt: HostRuntime) -> Result<(), Fail> {
+        let load = Kind::Ld {
+            width: LoadWidth::Bu,
+            rd: 5,
+            rb: 33,
+            addr: 0x10_01f0,
+        };
+        writes(&rt, rt.alloc(), load, "h1 ld bu 5 33 1001f0")?;
+        let fault = Kind::Ft {
+            cause: FaultCause::ReadOnly,
+            addr: u32::MAX,
+        };
+        writes(&rt, rt.alloc(), fault, "h1 ft readonly ffffffff")
+    }
+
+    #[test]
+    fn spells_arcs_by_rising_hart(rt: HostRuntime) -> Result<(), Fail> {
+        let mut arcs = Arcs::none();
+        arcs.set(7, Some(10));
+        arcs.set(0, Some(u32::MAX));
+        let what = Record::Notice {
+            hart: 1,
+            of: Point {
+                hart: 2,
+                number: 30,
+            },
+        };
+        let mut out = String::new(rt.alloc());
+        write_line(&mut out, &Line { what, arcs })?;
+        assert_eq!(rt; out.as_str(), "h1 ! 2:30 < 0:4294967295,7:10\n");
+        Ok(())
+    }
+
+    /// Reads the text and writes it again.
+    fn comes_back<R: Abort>(rt: &R, alloc: Global, text: &str) {
+        assert!(rt; text.len() < 1000);
+        let read = read_log(alloc, text.as_bytes());
+        assert!(rt; read.is_ok());
+        if let Ok(log) = read {
+            let written = write_log(alloc, &log);
+            assert!(rt; written.is_ok());
+            if let Ok(bytes) = written {
+                assert_eq!(rt; bytes.as_slice(), text.as_bytes());
+            }
+        }
+    }
+
+    #[test]
+    fn what_was_read_comes_back(rt: HostRuntime) {
+        comes_back(&rt, rt.alloc(), "PLOG 1 harts 1 block 16\n");
+        let pages =
+            "PLOG 2 harts 8 block 4\npage 16 2 data\npage 18 1 heap\npage 4094 2 stack\nh7 ex\n";
+        comes_back(&rt, rt.alloc(), pages);
+        let registers =
+            "PLOG 1 harts 3 block 16\nh0 ld w 1 2 10\nh1 st h 3 4 fffffe < 0:1\nh0 op 5 6 7\nh0 mv 8 9\nh0 im 10\nh2 br 11 12 < 0:4,1:1\nh0 jr 13 14\n";
+        comes_back(&rt, rt.alloc(), registers);
+        let alerts =
+            "PLOG 1 harts 2 block 16\nh1 ! 0:1\nh0 al 400000 16\nh0 fr 400000 16\nh0 bf ffffffff\nh0 mp 4095 1\nh0 um 4095 1\nh0 rd abc 1\nh0 wr 0 65536\nh1 ft pc 2\n";
+        comes_back(&rt, rt.alloc(), alerts);
+    }
+}

@@ -1,2 +1,5 @@
-pub mod EventLemmas
+pub mod Names
+pub mod PlayLemmas
+pub mod Refusals
 pub mod RowLemmas
+pub mod RunLemmas

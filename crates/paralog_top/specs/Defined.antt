@@ -1,22 +1,33 @@
 -- What each command writes for its input.
-use Rattle.std.specs.Prelude.{◌≡◌, ℕ, Bool, not, ◌==◌, List, length, map}
+use Rattle.std.specs.Prelude.{◌≡◌, ℕ, Bool, false, not, ◌==◌, List, [], ◌∷◌, ◌++◌, length, map, Option, slice_index_or}
+use Rattle.std.specs.List.{flat_map}
+use Rattle.std.specs.Option.{option_map_or}
+use Rattle.pl_event.specs.declared.event.Event.{Event}
 use Rattle.pl_event.specs.declared.log.Log.{Log}
 use Rattle.pl_event.specs.Numbers.{events_of}
 use Rattle.log_text.specs.WellFormed.{IsLogText}
 use Rattle.lifeguard.specs.Rules.{Rules}
 use Rattle.lifeguard.specs.declared.guard.Name.{Name}
+use Rattle.lifeguard.specs.declared.guard.Name.TheVariants as guard
 use Rattle.lifeguard.specs.State.{State, Masks, span}
 use Rattle.lifeguard.specs.Plain.{plain_result}
 use Rattle.addrcheck.specs.AddrRules.{addr_rules}
+use Rattle.taintcheck.specs.TaintRules.{taint_rules}
+use Rattle.memcheck.specs.MemRules.{mem_rules}
 use Rattle.report_text.specs.ReportText.{report_text}
 use Rattle.report_text.specs.Runs.{runs_of}
-use Rattle.paralog_top.specs.declared.command.Guard.{Guard}
-use Rattle.paralog_top.specs.declared.command.Guard.TheVariants as guard
+use Rattle.replay_probes.specs.Meaning.{Meaning, line_over}
+use Rattle.paralog_top.specs.Commands.{place_named}
+use Rattle.core_sim.specs.declared.job.Job.{Job}
+use Rattle.guest_asm.specs.Jobs.{IsJobText}
+use Rattle.paralog_top.specs.Runs.{IsRunTold, IsListing}
 use Rattle.paralog_top.specs.declared.command.Command.{Command}
 use Rattle.paralog_top.specs.declared.command.Command.TheVariants as command
 
-abbrev pub rules_of : Guard → Rules
+abbrev pub rules_of : Name → Rules
 rules_of guard.Addr = addr_rules
+rules_of guard.Taint = taint_rules
+rules_of guard.Mem = mem_rules
 
 -- what the plain rules give over all events of a log, one by one in executed order
 abbrev pub replayed : Rules → Log → State
@@ -42,19 +53,47 @@ pub record IsResult (rules : Rules) (log : Log) (text : List ℕ) (reported : Bo
   pub marked : reported ≡ has_report (replayed rules log)
 
 -- the bytes are a log, and the answer is its result
-pub record IsReplay (guard : Guard) (bytes text : List ℕ) (reported : Bool) : Type 0 where
+pub record IsReplayUnder (rules : Rules) (bytes text : List ℕ) (reported : Bool) : Type 0 where
   pub log : Log
   pub read : IsLogText bytes log
-  pub result : IsResult (rules_of guard) log text reported
+  pub result : IsResult rules log text reported
 
--- what a command answers to its input
-abbrev pub IsAnswer : Command → List ℕ → List ℕ → Bool → Type 0
-IsAnswer (command.Replay guard) bytes text reported = IsReplay guard bytes text reported
+abbrev pub IsReplay : Name → List ℕ → List ℕ → Bool → Type 0
+IsReplay guard bytes text reported = IsReplayUnder (rules_of guard) bytes text reported
+
+-- the line at a place, and its line feed; nothing but that where there is no place
+abbrev pub line_at : List (List ℕ) → Option ℕ → List ℕ
+line_at lines place = option_map_or (λ k. slice_index_or lines k []) place [] ++ 10 ∷ []
+
+-- the lines of the named probes over a run, in the order of the names
+abbrev pub named_lines : List Meaning → List Event → List (List ℕ) → List ℕ
+named_lines meanings events names = flat_map (line_at (map (line_over events) meanings)) (map (place_named meanings) names)
+
+-- the bytes are a log, and the answer is its result, with the lines of the named probes behind it
+pub record IsProbed (meanings : List Meaning) (names : List (List ℕ)) (guard : Name) (bytes text : List ℕ) (reported : Bool) : Type 0 where
+  pub log : Log
+  pub read : IsLogText bytes log
+  pub report : List ℕ
+  pub result : IsResult (rules_of guard) log report reported
+  pub told : text ≡ report ++ named_lines meanings (events_of log.lines) names
+
+-- what a command answers to its input, with these probes at hand and these names behind its lifeguard
+abbrev pub IsAnswer : List Meaning → List (List ℕ) → Command → List ℕ → List ℕ → Bool → Type 0
+IsAnswer meanings names (command.Replay guard) bytes text reported = IsReplay guard bytes text reported
+IsAnswer meanings names (command.Probe guard) bytes text reported = IsProbed meanings names guard bytes text reported
+IsAnswer meanings names command.Run bytes text reported = IsRunTold bytes text × (reported ≡ false)
+IsAnswer meanings names command.List bytes text reported = IsListing bytes text × (reported ≡ false)
 
 -- how many bytes of input a command takes
 abbrev pub limit_of : Command → ℕ
 limit_of (command.Replay guard) = 67108864
+limit_of (command.Probe guard) = 67108864
+limit_of command.Run = 1048576
+limit_of command.List = 1048576
 
 -- a command has an answer to these bytes
 abbrev pub IsInput : Command → List ℕ → Type 0
 IsInput (command.Replay guard) bytes = (log : Log) × IsLogText bytes log
+IsInput (command.Probe guard) bytes = (log : Log) × IsLogText bytes log
+IsInput command.Run bytes = (job : Job) × IsJobText bytes job
+IsInput command.List bytes = (job : Job) × IsJobText bytes job

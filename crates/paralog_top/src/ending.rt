@@ -1,3 +1,4 @@
+use guest_asm::JobFault;
 use log_text::LogFault;
 
 /// How a command ended, with what its note names.
@@ -5,6 +6,8 @@ use log_text::LogFault;
 pub enum Ending {
     /// The answer was written.
     Done { reported: bool },
+    /// The input is no job.
+    BadJob(JobFault),
     /// The input is no well-formed log.
     BadLog(LogFault),
     ReadFault,

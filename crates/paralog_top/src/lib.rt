@@ -7,14 +7,22 @@
 mod answer;
 mod command;
 mod ending;
+mod list;
 mod notes;
 mod played;
+mod probed;
+mod refused;
 mod replay;
+mod result;
+mod run;
+#[cfg(test)]
+mod run_tests;
+mod run_text;
 mod status;
 #[cfg(test)]
 mod tests;
 mod top;
 
-pub use command::{Command, Guard};
+pub use command::Command;
 pub use status::Status;
 pub use top::plain_top;

@@ -1,51 +1,61 @@
-ghost use Rattle.std.specs.Prelude.{◌≡◌, ◌<◌, ◌≤◌, ◌+◌, ◌++◌, [], List, All, length, IfOk, OnOk};
-ghost use Rattle.std.specs.List.{cons_option};
-ghost use Rattle.pl_event.specs.declared.event.Event.{Event};
-ghost use Rattle.pl_event.specs.declared.log.PageRun.{PageRun};
-ghost use Rattle.pl_event.specs.Numbers.{events_of, event_of};
-ghost use Rattle.log_text.specs.Parts.{IsValidLine, IsValidRecord};
-ghost use Rattle.lifeguard.specs.Stands.{Stands, place_of};
+ghost use Rattle.std.specs.Prelude.{◌≡◌, [], All, IfOk, map};
+ghost use Rattle.pl_event.specs.Numbers.{events_of};
+ghost use Rattle.log_text.specs.Parts.{HasValidParts};
+ghost use Rattle.replay_probes.specs.Meaning.{line_over};
+ghost use Rattle.paralog_top.specs.Defined.{IsResult, rules_of};
 
-use lifeguard::{Lifeguard, PlainMonitor};
+use crate::answer::Answer;
+use crate::result::result_of;
+use addrcheck::AddrCheck;
+use lifeguard::{Lifeguard, Name};
+use memcheck::MemCheck;
 use pl_base::NoMemory;
-use pl_event::{Lines, PageRun, Record};
+use pl_event::Log;
+use replay_probes::{Probe, replay};
 use std::alloc::Global;
+use taintcheck::TaintCheck;
 
-/// The plain monitor of all events of the lines, in order.
-pub fn play<L: Lifeguard>(
-    alloc: Global,
-    guard: L,
-    harts: u8,
-    pages: &[PageRun],
-    lines: &Lines,
-) -> Result<PlainMonitor<L>, NoMemory>
-    requires few { harts ≤ 8 }
-    requires inside { All (λ run. run.first + run.count ≤ 4096) pages.now }
-    requires valid { All (IsValidLine harts) lines.now }
-    requires short { length lines.now ≤ 2000000 }
-    ensures stands { IfOk result (λ monitor. Stands (L.rules guard) pages.now (events_of lines.now) monitor.shadow) }
-    ensures harts { IfOk result (λ monitor. monitor.harts ≡ harts) }
-{
-    let mut monitor = PlainMonitor::new(alloc, guard, harts, pages)?;
-    for i in 0..lines.len() {
-        apply_record(&mut monitor, lines.record(i))?;
-    }
-    Ok(monitor)
+/// The plain result of a log, as an answer, and the lines of the probes that looked on.
+#[derive(Drop)]
+pub struct Played {
+    pub answer: Answer,
+    pub lines: Vec<Vec<u8>>,
 }
 
-/// Applies the event of a record; a notice has none.
-#[inline]
-fn apply_record<L: Lifeguard>(monitor: &mut PlainMonitor<L>, what: Record) -> Result<(), NoMemory>
-    requires few { monitor.old.harts ≤ 8 }
-    requires valid { IsValidRecord monitor.old.harts what }
-    requires room { place_of monitor.old.shadow < 2000000 }
-    ensures stands { OnOk result ((pages : List PageRun) (events : List Event) → Stands (L.rules monitor.old.guard) pages events monitor.old.shadow
-        → Stands (L.rules monitor.old.guard) pages (events ++ cons_option (event_of what) []) monitor.new.shadow) }
-    ensures guard { monitor.new.guard ≡ monitor.old.guard }
-    ensures harts { monitor.new.harts ≡ monitor.old.harts }
+/// Plays a log under the named lifeguard.
+pub fn play(
+    alloc: Global,
+    guard: Name,
+    log: &Log,
+    probes: Vec<Box<dyn Probe>>,
+) -> Result<Played, NoMemory>
+    requires valid { HasValidParts log.now }
+    requires fresh { All (λ p. has_seen p []) probes.items }
+    ensures result { IfOk result (λ played. IsResult (rules_of guard) log.now played.answer.text.items played.answer.reported) }
+    ensures lines { IfOk result (λ played. map (λ line. line.items) played.lines.items ≡ map (line_over (events_of log.now.lines)) (map (λ p. meaning p) probes.items)) }
 {
-    match what {
-        Record::Event(event) => monitor.apply(&event),
-        Record::Notice { .. } => Ok(()),
+    match guard {
+        Name::Addr => play_under(alloc, AddrCheck, log, probes),
+        Name::Taint => play_under(alloc, TaintCheck, log, probes),
+        Name::Mem => play_under(alloc, MemCheck, log, probes),
     }
+}
+
+fn play_under<L: Lifeguard>(
+    alloc: Global,
+    guard: L,
+    log: &Log,
+    probes: Vec<Box<dyn Probe>>,
+) -> Result<Played, NoMemory>
+    requires valid { HasValidParts log.now }
+    requires fresh { All (λ p. has_seen p []) probes.items }
+    ensures result { IfOk result (λ played. IsResult (L.rules guard) log.now played.answer.text.items played.answer.reported) }
+    ensures lines { IfOk result (λ played. map (λ line. line.items) played.lines.items ≡ map (line_over (events_of log.now.lines)) (map (λ p. meaning p) probes.items)) }
+{
+    let replayed = replay(alloc, log, guard, probes)?;
+    let answer = result_of(alloc, guard, &replayed.monitor)?;
+    Ok(Played {
+        answer,
+        lines: replayed.lines,
+    })
 }

@@ -32,7 +32,14 @@ fn run(
     let mut source = MemSource::new(input.as_bytes().to_vec(alloc)?, 4, read_fails);
     let mut out = MemSink::new(alloc, 1000, 10, write_fails)?;
     let mut notes = MemSink::new(alloc, 100, 100, Vec::new(alloc))?;
-    let status = plain_top(alloc, &words, &mut source, &mut out, &mut notes);
+    let status = plain_top(
+        alloc,
+        &words,
+        &mut source,
+        &mut out,
+        &mut notes,
+        Vec::new(alloc),
+    );
     Ok(Written {
         status,
         out: out.written().to_vec(alloc)?,
@@ -121,10 +128,10 @@ fn names_the_line_of_a_bad_log(rt: HostRuntime) {
     replays(
         &rt,
         rt.alloc(),
-        "PLOG 1 harts 2 block 16\nh0 im 5\n",
+        "PLOG 1 harts 2 block 16\nh0 im 5 < 0:1\n",
         Status::BadLog,
         "",
-        "paralog: log line 2: later\n",
+        "paralog: log line 2: arc\n",
     );
     replays(
         &rt,
@@ -219,7 +226,14 @@ fn status_of(alloc: Global, count: usize) -> Result<Status, NoMemory> {
     let mut source = MemSource::new(bytes, 65536, Vec::new(alloc));
     let mut out = MemSink::new(alloc, 1000, 1000, Vec::new(alloc))?;
     let mut notes = MemSink::new(alloc, 100, 100, Vec::new(alloc))?;
-    Ok(plain_top(alloc, &words, &mut source, &mut out, &mut notes))
+    Ok(plain_top(
+        alloc,
+        &words,
+        &mut source,
+        &mut out,
+        &mut notes,
+        Vec::new(alloc),
+    ))
 }
 
 #[test]

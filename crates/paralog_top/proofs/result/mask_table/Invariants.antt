@@ -2,7 +2,7 @@ use Rattle.std.proofs.Common.{◌≡◌, map}
 use Rattle.lifeguard.specs.State.{span}
 use Rattle.lifeguard.specs.Stands.{state_of}
 use Rattle.paralog_top.specs.Defined.{mask_row}
-use Rattle.paralog_top.proofs.replay.mask_table.Given as goal
+use Rattle.paralog_top.proofs.result.mask_table.Given as goal
 
 abbrev pub invariant-loop-hart : goal.invariant-loop-hart
 invariant-loop-hart g l = l.table.items ≡ map (mask_row (state_of l.monitor.shadow).masks) (span 0 l.hart)

@@ -2,7 +2,7 @@ use Rattle.std.proofs.Common.{◌≡◌, ◌∙◌, ◌++◌, ◌∷◌, [], Lis
 use Rattle.lifeguard.specs.Stands.{state_of}
 use Rattle.paralog_top.specs.Defined.{mask_row}
 use Rattle.paralog_top.proofs.RowLemmas.{map_span-more}
-use Rattle.paralog_top.proofs.replay.mask_table.Goals as goal
+use Rattle.paralog_top.proofs.result.mask_table.Goals as goal
 
 pub loop-hart-preserved : goal.loop-hart-preserved
 loop-hart-preserved g c =

@@ -1,7 +1,7 @@
 use Rattle.std.proofs.Common.{arith, rules}
 use Rattle.lifeguard.specs.Stands.{state_of}
 use Rattle.paralog_top.proofs.RowLemmas.{row-more}
-use Rattle.paralog_top.proofs.replay.masks_of.Goals as goal
+use Rattle.paralog_top.proofs.result.masks_of.Goals as goal
 
 pub loop-register-preserved : goal.loop-register-preserved
 loop-register-preserved g c = record {

@@ -114,7 +114,7 @@ pub first_back : (base high c : ℕ) (cs : List ℕ) (n : ℕ) → digit c < bas
 first_back base high c cs n small few e = rw (zero_more base (digit c), lt-ltb _ _ small, le-leb _ _ few) e
 
 -- one digit
-one_digit : (k base d : ℕ) → d < base → digits_onto (suc k) base false d [] ≡ digit_glyph false d ∷ []
+pub one_digit : (k base d : ℕ) → d < base → digits_onto (suc k) base false d [] ≡ digit_glyph false d ∷ []
 one_digit k base d lt =
     let quotient : d / base ≡ 0 = small_div base d lt in
     let rest : d % base ≡ d = small_mod base d lt in

@@ -1,4 +1,6 @@
-use crate::{after_byte, decimal_at, first_byte, hex_at, number_at, one_number, parse_number};
+use crate::{
+    after_byte, decimal_at, digit_at, first_byte, hex_at, number_at, one_number, parse_number,
+};
 
 /// The number, and how many bytes stand behind it.
 fn decimal_front(text: &[u8], high: u32) -> Option<(u32, usize)> {
@@ -45,4 +47,6 @@ fn a_text_goes_on_behind_its_first_byte(rt: HostRuntime) {
     assert!(rt; matches!(first_byte(b"ab"), Some((b'a', [b'b']))));
     assert!(rt; matches!(after_byte(b"ab", b'a'), Some([b'b'])));
     assert!(rt; after_byte(b"ab", b'b').is_none());
+    assert!(rt; matches!(digit_at(b"70"), Some((7, [b'0']))));
+    assert!(rt; digit_at(b"a").is_none());
 }

@@ -1,5 +1,5 @@
 -- Arcs read one after the other.
-use Rattle.std.proofs.Common.{◌≡◌, ℕ, ◌<◌, List, [], ◌∷◌, ◌++◌, length, map, codes, Option, Some, None, refl, sym, ap, subst, ◌∙◌, append_assoc, arith}
+use Rattle.std.proofs.Common.{◌≡◌, ℕ, ◌<◌, List, [], ◌∷◌, ◌++◌, length, map, codes, Option, Some, None, true, false, refl, sym, ap, subst, ◌∙◌, append_assoc, arith}
 use Rattle.std.specs.Prelude.{IfNone, IsSomeAnd}
 use Rattle.std.specs.Borrow.{Bor}
 use Rattle.std.proofs.lemmas.List.{append-nil, length-append}
@@ -7,7 +7,6 @@ use Rattle.pl_event.specs.declared.log.Point.{Point}
 use Rattle.std.specs.List.{join_with_byte}
 use Rattle.pl_event.specs.declared.log.Record.{Record}
 use Rattle.log_text.specs.declared.points.ArcList.{ArcList}
-use Rattle.log_text.specs.declared.points.Points.TheVariants as points
 use Rattle.log_text.specs.Begins.{EndsWithArcs, EndsWithNone}
 use Rattle.log_text.proofs.Chain.{same_behind}
 use Rattle.log_text.specs.Arcs.{Sums}
@@ -145,8 +144,8 @@ pub arcs_are : (points : List Point) (point : Point) (after : List ℕ) → behi
 arcs_are points point after = refl
 
 -- no arcs
-pub ends_bare : (what : Record) (bytes rest : List ℕ) → MayHave what [] → bytes ≡ 10 ∷ rest → EndsWithArcs what bytes points.None rest
-ends_bare what bytes rest may e = record { points = []; in_form = tt; may_have = may; shows = refl; spelled = e; only = others }
+pub ends_bare : (what : Record) (bytes rest : List ℕ) (list : ArcList) → MayHave what [] → bytes ≡ 10 ∷ rest → EndsWithArcs what bytes false list rest
+ends_bare what bytes rest list may e = record { points = []; in_form = tt; may_have = may; shows = refl; spelled = e; only = others }
   where
     others : (points : List Point) (after : List ℕ) → ArePointsInForm most_read points → MayHave what points → bytes ≡ behind_blanks (arc_words points) (10 ∷ after) → (points ≡ []) × (after ≡ rest)
     others [] after form has f = (refl, sym (same_tail 10 rest after (sym e ∙ f)))
@@ -173,7 +172,7 @@ ends_unfed what bytes rest behind list feed sign listed none [] after form may e
 ends_unfed what bytes rest behind list feed sign listed none (point ∷ points) after form may e = none after (listed.only (point ∷ points) after form (behind_sign bytes rest points point after sign e)).1
 
 pub ends_listed : (what : Record) (bytes rest behind after : List ℕ) (list : ArcList) → ((points : List Point) → MayHave what points) → ((after : List ℕ) → bytes ≡ 10 ∷ after → ⊥) → bytes ≡ codes " < " ++ rest → IsArcList rest list behind → behind ≡ 10 ∷ after
-    → EndsWithArcs what bytes (points.Some list) after
+    → EndsWithArcs what bytes true list after
 ends_listed what bytes rest behind after list may feed sign listed fed = record {
   points = listed.points;
   in_form = listed.in_form;

@@ -6,7 +6,7 @@ use Rattle.std.proofs.lemmas.Bool.{or_parts, leb-false}
 use Rattle.pl_event.specs.Numbers.{hart_of}
 use Rattle.pl_event.specs.declared.log.Point.{Point}
 use Rattle.pl_event.specs.declared.log.Record.{Record}
-use Rattle.log_text.specs.Arcs.{Sums, is_rising, highest_hart}
+use Rattle.log_text.specs.Arcs.{arcs_in, Sums, is_rising, highest_hart}
 use Rattle.log_text.specs.Spelling.{Entry, points_from}
 use Rattle.log_text.specs.Tally.{Keeps}
 use Rattle.log_text.specs.WellFormed.{records_in, names_past, breaks_hart, breaks_arc}
@@ -18,7 +18,7 @@ use Rattle.log_text.proofs.RuleLemmas.{list_any-or, list_any_same}
 -- where the harts rise, the arcs that are kept are those of the line
 pub breaks_arc-kept : (tally : Tally) (before : List Entry) (what : Record) (arcs : List Point) (list : ArcList) (own : ℕ) →
     Keeps tally before → Sums list arcs → breaks_hart tally.harts what arcs ≡ false → list.rising ≡ true → own ≡ hart_of what →
-    list_any (λ (point : Point). eqb point.hart own || ltb (get_or tally.numbers point.hart 0) point.number) (points_from 0 list.arcs) ≡ breaks_arc before what arcs
+    list_any (λ (point : Point). eqb point.hart own || ltb (get_or tally.numbers point.hart 0) point.number) (points_from 0 (arcs_in list.numbers)) ≡ breaks_arc before what arcs
 breaks_arc-kept tally before what arcs list own keeps sums sound rises same =
     let rising : is_rising arcs ≡ true = sym sums.rising ∙ rises in
     let within : list_any (λ (point : Point). leb tally.harts point.hart) arcs ≡ false

@@ -7,6 +7,7 @@ mod ReadLemmas
 mod ReaderLemmas
 mod RowLaws
 mod Same
+mod Widths
 pub mod AddedLines
 pub mod ArcLemmas
 pub mod ArcRules

@@ -1,12 +1,12 @@
 -- Lines and headers as their words.
-use Rattle.std.proofs.Common.{◌≡◌, ℕ, ◌≤◌, List, [], ◌∷◌, ◌++◌, codes, get_or, Some, None, refl, sym, ap, subst, ◌∙◌, append_assoc, inl, inr, arith}
+use Rattle.std.proofs.Common.{Bool, ◌≡◌, ℕ, ◌≤◌, List, [], ◌∷◌, ◌++◌, codes, get_or, Some, None, refl, sym, ap, subst, ◌∙◌, append_assoc, inl, inr, arith}
 use Rattle.std.specs.Borrow.{Bor}
 use Rattle.std.specs.List.{join_with_byte}
 use Rattle.std.specs.Fmt.{decimal, digits}
 use Rattle.pl_event.specs.declared.log.Record.{Record}
 use Rattle.pl_event.specs.declared.log.Record.TheVariants as entry
 use Rattle.pl_event.specs.declared.log.Point.{Point}
-use Rattle.log_text.specs.declared.points.Points.{Points}
+use Rattle.log_text.specs.declared.points.ArcList.{ArcList}
 use Rattle.log_text.specs.Begins.{BeginsWithRow, BeginsWithNoRow, BeginsWithHeader, BeginsWithNoHeader, EndsWithArcs, EndsWithNone}
 use Rattle.log_text.specs.Form.{IsInForm, IsRecordInForm, MayHave, most_read}
 use Rattle.log_text.specs.Reads.{behind_blanks, Closes, Reads, ReadsHarts}
@@ -71,9 +71,9 @@ not_page bytes (entry.Notice hart point) r rest e f = omega (arith, same_first 1
     same_first : (x y : ℕ) (a b : List ℕ) → x ∷ a ≡ y ∷ b → x ≡ y
     same_first x y a b e = cc
 
-pub row_found : (bytes : List ℕ) (what : Record) (r : Bor (List ℕ)) (arcs : Points) (rest : List ℕ) → Reads (IsRecordInForm most_read) record_words (32 ∷ bytes) (Some (what, r)) → EndsWithArcs what r.now arcs rest
-    → BeginsWithRow bytes what arcs rest
-row_found bytes what r arcs rest reads ends = record {
+pub row_found : (bytes : List ℕ) (what : Record) (r : Bor (List ℕ)) (has_arcs : Bool) (list : ArcList) (rest : List ℕ) → Reads (IsRecordInForm most_read) record_words (32 ∷ bytes) (Some (what, r)) → EndsWithArcs what r.now has_arcs list rest
+    → BeginsWithRow bytes what has_arcs list rest
+row_found bytes what r has_arcs list rest reads ends = record {
   points = ends.points;
   shows = ends.shows;
   begins = record {

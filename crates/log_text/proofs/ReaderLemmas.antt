@@ -13,7 +13,7 @@ use Rattle.pl_event.specs.declared.log.Point.{Point}
 use Rattle.pl_event.specs.declared.log.Record.{Record}
 use Rattle.log_text.specs.declared.cause.LogCause.{LogCause}
 use Rattle.log_text.specs.declared.cause.LogCause.TheVariants as cause
-use Rattle.log_text.specs.declared.points.Points.{Points}
+use Rattle.log_text.specs.declared.points.ArcList.{ArcList}
 use Rattle.log_text.specs.declared.reader.LogReader.{LogReader}
 use Rattle.log_text.specs.declared.reader.Row.{Row}
 use Rattle.log_text.specs.declared.tally.Tally.{Tally}
@@ -35,17 +35,17 @@ drop_after bytes at line after e =
     let n : length bytes - length after ≡ length front = omega (arith, ap length whole, length-append front after) in
     ap (λ (k : ℕ). drop k bytes) n ∙ ap (drop (length front)) whole ∙ drop-append_seam front after
 
-abbrev pub passed : LogReader → Tally → List ℕ → List ℕ → LogReader
-passed reader tally bytes after = record { tally = tally; line = (reader.line + 1) % 2 ^ 32; at = length bytes - length after }
+abbrev pub passed : LogReader → Tally → ArcList → List ℕ → List ℕ → LogReader
+passed reader tally list bytes after = record { tally = tally; arcs = list; line = (reader.line + 1) % 2 ^ 32; at = length bytes - length after }
 
 next_number : (line count : ℕ) → line ≡ count + 2 → count < 2 ^ 31 → (line + 1) % 2 ^ 32 ≡ (count + 1) + 2
 next_number line count e few = omega (arith, e, few)
 
 -- one more line
-pub by_push : (reader : LogReader) (tally : Tally) (bytes after : List ℕ) (log new : Log) (e : Entry) → length bytes < 2 ^ 31 → IsReadBy reader bytes log → Begins (drop reader.at bytes) e after
+pub by_push : (reader : LogReader) (tally : Tally) (list : ArcList) (bytes after : List ℕ) (log new : Log) (e : Entry) → length bytes < 2 ^ 31 → IsReadBy reader bytes log → Begins (drop reader.at bytes) e after
     → broken log.harts (entries_of log) e ≡ None → new.harts ≡ log.harts → new.block ≡ log.block → All IsWhole new.lines → entries_of new ≡ entries_of log ++ e ∷ [] → tally.harts ≡ reader.tally.harts
-    → Keeps tally (entries_of log ++ e ∷ []) → IsReadBy (passed reader tally bytes after) bytes new
-by_push reader tally bytes after log new e small by begins none same size whole entries harts keeps = record {
+    → Keeps tally (entries_of log ++ e ∷ []) → IsReadBy (passed reader tally list bytes after) bytes new
+by_push reader tally list bytes after log new e small by begins none same size whole entries harts keeps = record {
   read = subst (λ (r : List ℕ). IsRead bytes r new) (sym (drop_after bytes reader.at (line_text (entry_text e)) after begins.spelled)) (read-push bytes (drop reader.at bytes) after log new e by.read begins none same size whole entries);
   keeps = subst (Keeps tally) (sym entries) keeps;
   harts = harts ∙ by.harts ∙ sym same;
@@ -53,13 +53,13 @@ by_push reader tally bytes after log new e small by begins none same size whole 
 }
 
 -- a run of pages
-pub by_pages : (reader : LogReader) (tally : Tally) (bytes after : List ℕ) (log : Log) (run : PageRun) → length bytes < 2 ^ 31 → log.lines ≡ [] → IsReadBy reader bytes log → Begins (drop reader.at bytes) (page run) after
-    → broken log.harts (entries_of log) (page run) ≡ None → tally.harts ≡ reader.tally.harts → Keeps tally (entries_of log ++ page run ∷ []) → IsReadBy (passed reader tally bytes after) bytes (with_pages log run)
-by_pages reader tally bytes after log run small bare by begins none harts keeps =
-    by_push reader tally bytes after log (with_pages log run) (page run) small by begins none refl refl by.read.eight (entries-pages log run bare) harts keeps
+pub by_pages : (reader : LogReader) (tally : Tally) (list : ArcList) (bytes after : List ℕ) (log : Log) (run : PageRun) → length bytes < 2 ^ 31 → log.lines ≡ [] → IsReadBy reader bytes log → Begins (drop reader.at bytes) (page run) after
+    → broken log.harts (entries_of log) (page run) ≡ None → tally.harts ≡ reader.tally.harts → Keeps tally (entries_of log ++ page run ∷ []) → IsReadBy (passed reader tally list bytes after) bytes (with_pages log run)
+by_pages reader tally list bytes after log run small bare by begins none harts keeps =
+    by_push reader tally list bytes after log (with_pages log run) (page run) small by begins none refl refl by.read.eight (entries-pages log run bare) harts keeps
 
-abbrev row_from : Record → Points → Row
-row_from what arcs = record { what = what; points = arcs }
+abbrev row_from : Record → Bool → Row
+row_from what has_arcs = record { what = what; has_arcs = has_arcs }
 
 one_whole : (line : Line) → IsWhole line → All IsWhole (line ∷ [])
 one_whole line whole zero d h = whole
@@ -71,12 +71,12 @@ any_row (page run ∷ entries) what points e = any_row entries what points e
 any_row (row other arcs ∷ entries) what points e = absurd cc
 
 -- a record
-pub row_read : (reader : LogReader) (tally : Tally) (bytes after : List ℕ) (log : Log) (what : Record) (arcs : Points) → length bytes < 2 ^ 31 → HasRead reader bytes log → BeginsWithRow (drop reader.at bytes) what arcs after
-    → ((points : List Point) → ShowsPoints arcs points → broken reader.tally.harts (entries_of log) (row what points) ≡ None) → tally.harts ≡ reader.tally.harts
-    → ((points : List Point) → broken reader.tally.harts (entries_of log) (row what points) ≡ None → Keeps tally (entries_of log ++ row what points ∷ [])) → ReadsRow (passed reader tally bytes after) bytes log (row_from what arcs)
-row_read reader tally bytes after log what arcs small has begins kept harts keeps = record {
+pub row_read : (reader : LogReader) (tally : Tally) (bytes after : List ℕ) (log : Log) (what : Record) (has_arcs : Bool) (list : ArcList) → length bytes < 2 ^ 31 → HasRead reader bytes log → BeginsWithRow (drop reader.at bytes) what has_arcs list after
+    → ((points : List Point) → ShowsPoints has_arcs list points → broken reader.tally.harts (entries_of log) (row what points) ≡ None) → tally.harts ≡ reader.tally.harts
+    → ((points : List Point) → broken reader.tally.harts (entries_of log) (row what points) ≡ None → Keeps tally (entries_of log ++ row what points ∷ [])) → ReadsRow (passed reader tally list bytes after) bytes log (row_from what has_arcs)
+row_read reader tally bytes after log what has_arcs list small has begins kept harts keeps = record {
   read = record {
-    by = by_push reader tally bytes after log (with_line log line) e small has.by begins.begins none refl refl whole entries harts (keeps points kept_here);
+    by = by_push reader tally list bytes after log (with_line log line) e small has.by begins.begins none refl refl whole entries harts (keeps points kept_here);
     begun = λ bare. absurd (any_row (entries_of log) what points (ap (list_any is_row) (sym entries) ∙ bare));
   };
   valid = valid_row log.harts (entries_of log) what points begins.begins.in_form none;
@@ -90,7 +90,7 @@ row_read reader tally bytes after log what arcs small has begins kept harts keep
     e = row what points
 
     line : Line
-    line = line_of (row_from what arcs)
+    line = line_of (passed reader tally list bytes after) (row_from what has_arcs)
 
     kept_here : broken reader.tally.harts (entries_of log) e ≡ None
     kept_here = kept points begins.shows
@@ -99,15 +99,15 @@ row_read reader tally bytes after log what arcs small has begins kept harts keep
     none = ap (λ (h : ℕ). broken h (entries_of log) e) (sym has.by.harts) ∙ kept_here
 
     whole : All IsWhole (with_line log line).lines
-    whole = All-append IsWhole log.lines (line ∷ []) has.by.read.eight (one_whole line (arcs_eight points arcs begins.shows))
+    whole = All-append IsWhole log.lines (line ∷ []) has.by.read.eight (one_whole line (arcs_eight points has_arcs list begins.shows))
 
     entries : entries_of (with_line log line) ≡ entries_of log ++ e ∷ []
-    entries = entries-line log line ∙ ap (λ (x : Entry). entries_of log ++ x ∷ []) (ap (row what) (arcs_kept log.harts (entries_of log) what points arcs has.by.read.some has.by.read.few begins.shows none))
+    entries = entries-line log line ∙ ap (λ (x : Entry). entries_of log ++ x ∷ []) (ap (row what) (arcs_kept log.harts (entries_of log) what points has_arcs list has.by.read.some has.by.read.few begins.shows none))
 
 -- a record that breaks a rule
-pub row_broken : (reader : LogReader) (bytes after : List ℕ) (log : Log) (what : Record) (arcs : Points) (why : LogCause) → HasRead reader bytes log → BeginsWithRow (drop reader.at bytes) what arcs after
-    → ((points : List Point) → ShowsPoints arcs points → broken reader.tally.harts (entries_of log) (row what points) ≡ Some why) → IsNoLog bytes (record { line = reader.line; cause = why })
-row_broken reader bytes after log what arcs why has begins broke =
+pub row_broken : (reader : LogReader) (bytes after : List ℕ) (log : Log) (what : Record) (has_arcs : Bool) (list : ArcList) (why : LogCause) → HasRead reader bytes log → BeginsWithRow (drop reader.at bytes) what has_arcs list after
+    → ((points : List Point) → ShowsPoints has_arcs list points → broken reader.tally.harts (entries_of log) (row what points) ≡ Some why) → IsNoLog bytes (record { line = reader.line; cause = why })
+row_broken reader bytes after log what has_arcs list why has begins broke =
     fault-broken bytes (drop reader.at bytes) after log reader.line (row what begins.points) why has.by.read has.by.line begins.begins
     (ap (λ (h : ℕ). broken h (entries_of log) (row what begins.points)) (sym has.by.harts) ∙ broke begins.points begins.shows)
 
@@ -185,9 +185,9 @@ pub further : (bytes rest after : List ℕ) (at : ℕ) → at ≤ length bytes �
 further bytes rest after at inside e less = omega (arith, inside, less, ap length e, length-drop at bytes)
 
 -- behind the header
-pub by_header : (bytes rest : List ℕ) (harts block : ℕ) (tally : Tally) → BeginsWithHeader bytes harts block rest → Keeps tally [] → tally.harts ≡ harts
-    → IsReadBy (record { tally = tally; line = 2; at = length bytes - length rest }) bytes (bare harts block)
-by_header bytes rest harts block tally header keeps same = record {
+pub by_header : (bytes rest : List ℕ) (harts block : ℕ) (tally : Tally) (list : ArcList) → BeginsWithHeader bytes harts block rest → Keeps tally [] → tally.harts ≡ harts
+    → IsReadBy (record { tally = tally; arcs = list; line = 2; at = length bytes - length rest }) bytes (bare harts block)
+by_header bytes rest harts block tally list header keeps same = record {
   read = subst (λ (r : List ℕ). IsRead bytes r (bare harts block)) (sym (drop_after bytes 0 (line_text (header_text harts block)) rest header.spelled)) (read-none bytes rest harts block header);
   keeps = keeps;
   harts = same;

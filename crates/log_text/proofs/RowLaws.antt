@@ -18,9 +18,9 @@ use Rattle.pl_event.specs.declared.log.Record.{Record}
 use Rattle.pl_event.specs.declared.log.Record.TheVariants as entry
 use Rattle.log_text.specs.declared.cause.LogCause.TheVariants.{Page, Records, Hart, Ended, Open, Arc, Notice, Access, Range, Map}
 use Rattle.log_text.specs.declared.cause.LogRefused.{LogRefused}
-use Rattle.log_text.specs.declared.points.Points.{Points}
-use Rattle.log_text.specs.declared.points.Points.TheVariants as arcs
-use Rattle.log_text.specs.Arcs.{ShowsPoints, is_rising, highest_hart}
+use Rattle.std.proofs.lemmas.List.{length-map}
+use Rattle.log_text.specs.declared.points.ArcList.{ArcList}
+use Rattle.log_text.specs.Arcs.{ShowsPoints, arc_of, is_rising, highest_hart}
 use Rattle.log_text.specs.Form.{IsInForm, IsRecordInForm, HasFormFields, most_read}
 use Rattle.log_text.specs.Parts.{HasValidParts, IsValidLine, IsValidRecord}
 use Rattle.log_text.specs.Reading.{IsOnly, arcs_of}
@@ -100,10 +100,10 @@ rises : (before : List Entry) (what : Record) (points : List Point) → breaks_a
 rises before what points kept = not-false _ (or_parts _ _ (or_parts _ _ kept).0).1
 
 -- the arcs that are kept are the points
-pub arcs_kept : (harts : ℕ) (before : List Entry) (what : Record) (points : List Point) (list : Points) → 1 ≤ harts → harts ≤ 8 → ShowsPoints list points → broken harts before (row what points) ≡ None
-    → points_from 0 (arcs_of list) ≡ points
-arcs_kept harts before what points arcs.None some few shows none = no_points 0 8 ∙ sym shows
-arcs_kept harts before what points (arcs.Some list) some few shows none =
+pub arcs_kept : (harts : ℕ) (before : List Entry) (what : Record) (points : List Point) (has_arcs : Bool) (list : ArcList) → 1 ≤ harts → harts ≤ 8 → ShowsPoints has_arcs list points → broken harts before (row what points) ≡ None
+    → points_from 0 (arcs_of has_arcs list) ≡ points
+arcs_kept harts before what points false list some few shows none = no_points 0 8 ∙ sym shows
+arcs_kept harts before what points true list some few shows none =
     let keeps : RowKeeps harts before what points = row_keeps harts before what points none in
     let rising : is_rising points ≡ true = rises before what points keeps.arc in
     let past : list_any (λ (p : Point). leb harts p.hart) points ≡ false = (or_parts (names_past harts what) (list_any (λ (p : Point). leb harts p.hart) points) keeps.hart).1 in
@@ -112,9 +112,9 @@ arcs_kept harts before what points (arcs.Some list) some few shows none =
     let small : highest_hart points < 8 = omega (arith, low, few) in
     shows.kept rising small
 
-pub arcs_eight : (points : List Point) (list : Points) → ShowsPoints list points → length (arcs_of list) ≡ 8
-arcs_eight points arcs.None shows = refl
-arcs_eight points (arcs.Some list) shows = shows.eight
+pub arcs_eight : (points : List Point) (has_arcs : Bool) (list : ArcList) → ShowsPoints has_arcs list points → length (arcs_of has_arcs list) ≡ 8
+arcs_eight points false list shows = refl
+arcs_eight points true list shows = length-map list.numbers arc_of ∙ shows.eight
 
 -- Counts
 

@@ -1,9 +1,9 @@
 -- What a text begins with, when it is read from the front.
-use Rattle.std.specs.Prelude.{◌≡◌, ℕ, ◌≤◌, List, ◌∷◌, ◌++◌}
+use Rattle.std.specs.Prelude.{◌≡◌, ℕ, ◌≤◌, Bool, List, ◌∷◌, ◌++◌}
 use Rattle.pl_event.specs.declared.log.Point.{Point}
 use Rattle.pl_event.specs.declared.log.Record.{Record}
 use Rattle.pl_event.specs.declared.log.PageRun.{PageRun}
-use Rattle.log_text.specs.declared.points.Points.{Points}
+use Rattle.log_text.specs.declared.points.ArcList.{ArcList}
 use Rattle.log_text.specs.Arcs.{ShowsPoints}
 use Rattle.log_text.specs.Spelling.{Entry, page, row, arc_words, header_text, line_text, entry_text}
 use Rattle.log_text.specs.Form.{IsInForm, ArePointsInForm, MayHave, most_read}
@@ -16,10 +16,10 @@ pub record Begins (bytes : List ℕ) (e : Entry) (rest : List ℕ) : Type 0 wher
   pub spelled : bytes ≡ line_text (entry_text e) ++ rest
   pub only : (other : Entry) (after : List ℕ) → IsInForm most_read other → bytes ≡ line_text (entry_text other) ++ after → (other ≡ e) × (after ≡ rest)
 
--- it is a record with these arcs
-pub record BeginsWithRow (bytes : List ℕ) (what : Record) (arcs : Points) (rest : List ℕ) : Type 0 where
+-- it is a record with the arcs of the list, if it has some
+pub record BeginsWithRow (bytes : List ℕ) (what : Record) (has_arcs : Bool) (list : ArcList) (rest : List ℕ) : Type 0 where
   pub points : List Point
-  pub shows : ShowsPoints arcs points
+  pub shows : ShowsPoints has_arcs list points
   pub begins : Begins bytes (row what points) rest
 
 abbrev pub BeginsWithNoRow : List ℕ → Type 0
@@ -28,12 +28,12 @@ BeginsWithNoRow bytes = (what : Record) (points : List Point) (after : List ℕ)
 abbrev pub BeginsWithNoPage : List ℕ → Type 0
 BeginsWithNoPage bytes = (run : PageRun) (after : List ℕ) → IsInForm most_read (page run) → bytes ≡ line_text (entry_text (page run)) ++ after → ⊥
 
--- the bytes are these arcs in form, which the record may have, and a line feed, and no others
-pub record EndsWithArcs (what : Record) (bytes : List ℕ) (arcs : Points) (rest : List ℕ) : Type 0 where
+-- the bytes are the arcs of the list in form, which the record may have, if there are some, and a line feed, and no others
+pub record EndsWithArcs (what : Record) (bytes : List ℕ) (has_arcs : Bool) (list : ArcList) (rest : List ℕ) : Type 0 where
   pub points : List Point
   pub in_form : ArePointsInForm most_read points
   pub may_have : MayHave what points
-  pub shows : ShowsPoints arcs points
+  pub shows : ShowsPoints has_arcs list points
   pub spelled : bytes ≡ behind_blanks (arc_words points) (10 ∷ rest)
   pub only : (others : List Point) (after : List ℕ) → ArePointsInForm most_read others → MayHave what others → bytes ≡ behind_blanks (arc_words others) (10 ∷ after) → (others ≡ points) × (after ≡ rest)
 

@@ -1,15 +1,15 @@
 -- How far the bytes of a log were read.
-use Rattle.std.specs.Prelude.{◌≡◌, ℕ, ◌+◌, ◌<◌, ◌≤◌, List, [], ◌∷◌, ◌++◌, length, drop, replicate, false, Option, Some, None, All, Result, Ok, Err}
+use Rattle.std.specs.Prelude.{◌≡◌, ℕ, ◌+◌, ◌<◌, ◌≤◌, List, [], ◌∷◌, ◌++◌, length, drop, replicate, Bool, true, false, Option, Some, None, All, Result, Ok, Err}
 use Rattle.pl_event.specs.declared.log.Line.{Line}
 use Rattle.pl_event.specs.declared.log.Log.{Log}
 use Rattle.pl_event.specs.declared.log.PageRun.{PageRun}
 use Rattle.log_text.specs.declared.cause.LogFault.{LogFault}
-use Rattle.log_text.specs.declared.points.Points.{Points}
-use Rattle.log_text.specs.declared.points.Points.TheVariants as arcs
+use Rattle.log_text.specs.declared.points.ArcList.{ArcList}
 use Rattle.log_text.specs.declared.reader.LogReader.{LogReader}
 use Rattle.log_text.specs.declared.reader.Opening.{Opening}
 use Rattle.log_text.specs.declared.reader.Row.{Row}
 use Rattle.std.specs.List.{list_any}
+use Rattle.log_text.specs.Arcs.{arcs_in}
 use Rattle.log_text.specs.Begins.{BeginsWithNoPage}
 use Rattle.log_text.specs.Form.{most_read}
 use Rattle.log_text.specs.Parts.{IsValidLine}
@@ -51,13 +51,13 @@ pub record HasRead (reader : LogReader) (bytes : List ℕ) (log : Log) : Type 0 
 abbrev pub opened : Opening → Log
 opened opening = record { harts = opening.harts; block = opening.block; pages = opening.pages; lines = [] }
 
--- the line of a row
-abbrev pub arcs_of : Points → List (Option ℕ)
-arcs_of arcs.None = replicate 8 None
-arcs_of (arcs.Some list) = list.arcs
+-- the line of the row that the reader has read last
+abbrev pub arcs_of : Bool → ArcList → List (Option ℕ)
+arcs_of false list = replicate 8 None
+arcs_of true list = arcs_in list.numbers
 
-abbrev pub line_of : Row → Line
-line_of row = record { what = row.what; arcs = arcs_of row.points }
+abbrev pub line_of : LogReader → Row → Line
+line_of reader row = record { what = row.what; arcs = arcs_of row.has_arcs reader.arcs }
 
 -- one more line
 abbrev pub with_line : Log → Line → Log
@@ -69,8 +69,8 @@ with_pages log run = record log { pages = log.pages ++ run ∷ [] }
 
 -- the log of the lines so far and that one, which the reader has read then
 pub record ReadsRow (reader : LogReader) (bytes : List ℕ) (log : Log) (row : Row) : Type 0 where
-  pub read : HasRead reader bytes (with_line log (line_of row))
-  pub valid : IsValidLine log.harts (line_of row)
+  pub read : HasRead reader bytes (with_line log (line_of reader row))
+  pub valid : IsValidLine log.harts (line_of reader row)
   pub room : length log.lines < 2000000
 
 -- the bytes are the log's, and no other's

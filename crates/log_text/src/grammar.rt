@@ -8,7 +8,7 @@ ghost use Rattle.log_text.specs.Begins.{Begins, BeginsWithRow, BeginsWithNoRow, 
 ghost use Rattle.log_text.specs.Spelling.{page};
 ghost use Rattle.log_text.specs.Reads.{ReadsHarts};
 
-use crate::points::Points;
+use crate::points::ArcList;
 use arcs::end_at;
 use line::{page_run, record};
 use pl_event::{PageRun, Record};
@@ -41,17 +41,18 @@ fn harts_at(text: &[u8]) -> Option<(u8, &[u8])>
     Some((harts as u8, rest))
 }
 
-/// The line of a record in form that the bytes begin with, and what stands behind its line feed.
+/// The record of the line in form that the bytes begin with, whether it has arcs, which are put into the list, and what
+/// stands behind the line feed.
 #[inline(always)]
-pub fn row_at(bytes: &[u8]) -> Option<(Record, Points, &[u8])>
-    ensures found { IfSome result (λ r. BeginsWithRow bytes.now r.0 r.1 r.2.now) }
+pub fn row_at<'a>(bytes: &'a [u8], list: &mut ArcList) -> Option<(Record, bool, &'a [u8])>
+    ensures found { IfSome result (λ r. BeginsWithRow bytes.now r.0 r.1 list.new r.2.now) }
     ensures missed { IfNone result (BeginsWithNoRow bytes.now) }
 {
     let (what, rest) = record(bytes)?;
-    let Some((points, rest)) = end_at(what, rest) else {
+    let Some((has_arcs, rest)) = end_at(what, rest, list) else {
         return None;
     };
-    Some((what, points, rest))
+    Some((what, has_arcs, rest))
 }
 
 /// The line of a run of pages in form that the bytes begin with, and what stands behind its line feed.

@@ -2,23 +2,23 @@
 //!
 //! A hart that the run has is below 8, so its remainder by 8 is itself; taken as an index, it needs no test.
 
-ghost use Rattle.std.specs.Prelude.{◌≡◌, ◌<◌, ◌≤◌, ◌+◌, ◌%◌, ◌^◌, ◌==◌, ◌||◌, ◌&&◌, ◌∷◌, List, ℕ, true, false, not, Some, None, nat_le, nat_lt, find, is_some, slice_index_or, length};
+ghost use Rattle.std.specs.Prelude.{◌≡◌, ◌<◌, ◌≤◌, ◌+◌, ◌%◌, ◌^◌, ◌==◌, ◌||◌, ◌&&◌, ◌∷◌, List, ℕ, true, false, not, Some, None, nat_le, nat_lt, find, is_some, slice_index_or, if◌then◌else◌};
 ghost use Rattle.std.specs.List.{list_any};
 ghost use Rattle.pl_base.specs.Widths.{load_bytes, store_bytes};
 ghost use Rattle.pl_event.specs.declared.log.Point.{Point};
 ghost use Rattle.pl_event.specs.Alerts.{is_alert_kind};
 ghost use Rattle.pl_event.specs.Numbers.{hart_of};
-ghost use Rattle.log_text.specs.Arcs.{ShowsPoints};
+ghost use Rattle.log_text.specs.Arcs.{ShowsPoints, arc_of, arcs_in};
 ghost use Rattle.log_text.specs.Spelling.{Entry, row, page, points_from};
 ghost use Rattle.log_text.specs.Tally.{Keeps};
 ghost use Rattle.log_text.specs.WellFormed.{broken, breaks, rules_of_fields, breaks_page, breaks_records, breaks_hart, breaks_ended, breaks_arc, breaks_notice, names_past, is_waiting, is_awaited, records_in, is_bad_notice, is_notice, has_pending, on_event, is_misaligned, passes_end, is_bad_map, ends_hart};
 
 use crate::cause::LogCause;
 use crate::page_set::PAGES;
-use crate::points::Points;
+use crate::points::ArcList;
 use crate::tally::Tally;
 use pl_base::{LoadWidth, StoreWidth};
-use pl_event::{Arcs, Kind, PageRun, Point, Record, is_alert, record_hart};
+use pl_event::{Kind, PageRun, Point, Record, is_alert, record_hart};
 
 /// How many records a log can have.
 const MAX_RECORDS: u32 = 2_000_000;
@@ -51,13 +51,13 @@ fn is_misplaced(tally: &Tally, run: PageRun) -> bool
 
 /// The first rule that a record breaks behind the lines so far.
 #[inline]
-pub fn judge_row(tally: &Tally, what: Record, points: &Points) -> Option<LogCause>
-    ensures { (before : List Entry) (arcs : List Point) → Keeps tally.now before → ShowsPoints points.now arcs → result ≡ broken tally.now.harts before (row what arcs) }
+pub fn judge_row(tally: &Tally, what: Record, has_arcs: bool, list: &ArcList) -> Option<LogCause>
+    ensures { (before : List Entry) (arcs : List Point) → Keeps tally.now before → ShowsPoints has_arcs list.now arcs → result ≡ broken tally.now.harts before (row what arcs) }
 {
     if tally.records >= MAX_RECORDS {
         return Some(LogCause::Records);
     }
-    if is_past_harts(tally, what, points) {
+    if is_past_harts(tally, what, has_arcs, list) {
         return Some(LogCause::Hart);
     }
     if is_after_end(tally, what) {
@@ -66,7 +66,7 @@ pub fn judge_row(tally: &Tally, what: Record, points: &Points) -> Option<LogCaus
     if is_open(tally, record_hart(&what)) {
         return Some(LogCause::Open);
     }
-    if has_bad_arcs(tally, what, points) {
+    if has_bad_arcs(tally, what, has_arcs, list) {
         return Some(LogCause::Arc);
     }
     if is_bad_record(tally, what) {
@@ -75,31 +75,45 @@ pub fn judge_row(tally: &Tally, what: Record, points: &Points) -> Option<LogCaus
     judge_fields(tally, what)
 }
 
-#[inline]
+/// The first rule on its fields that an event breaks: a kind has one at most.
+#[inline(always)]
 fn judge_fields(tally: &Tally, what: Record) -> Option<LogCause>
     ensures { (before : List Entry) → Keeps tally.now before → (harts : ℕ) (arcs : List Point) → result ≡ find (breaks harts before (row what arcs)) rules_of_fields }
 {
     let Record::Event(event) = what else {
         return None;
     };
-    if is_off_width(event.kind) {
-        return Some(LogCause::Access);
+    match event.kind {
+        Kind::Ld { width, addr, .. } => unless(is_load_aligned(addr, width), LogCause::Access),
+        Kind::St { width, addr, .. } => unless(is_store_aligned(addr, width), LogCause::Access),
+        Kind::Al { addr, len } | Kind::Fr { addr, len } => unless(
+            is_inside(addr, len),
+            LogCause::Range,
+        ),
+        Kind::Rd { addr, len } | Kind::Wr { addr, len } => unless(
+            is_inside(addr, len),
+            LogCause::Range,
+        ),
+        Kind::Mp { page, count } => unless(may_map(tally, page, count), LogCause::Map),
+        Kind::Um { page, count } => unless(may_unmap(tally, page, count), LogCause::Map),
+        _ => None,
     }
-    if is_past_memory(event.kind) {
-        return Some(LogCause::Range);
-    }
-    if is_bad_mapping(tally, event.kind) {
-        return Some(LogCause::Map);
-    }
-    None
+}
+
+/// The cause, unless its rule is kept.
+#[inline(always)]
+fn unless(kept: bool, cause: LogCause) -> Option<LogCause>
+    ensures { result ≡ (if kept then None else Some cause) }
+{
+    if kept { None } else { Some(cause) }
 }
 
 /// Whether the record is of a hart that the run does not have, or names one.
 #[inline]
-fn is_past_harts(tally: &Tally, what: Record, points: &Points) -> bool
-    ensures { (before : List Entry) (arcs : List Point) → Keeps tally.now before → ShowsPoints points.now arcs → result ≡ breaks_hart tally.now.harts what arcs }
+fn is_past_harts(tally: &Tally, what: Record, has_arcs: bool, list: &ArcList) -> bool
+    ensures { (before : List Entry) (arcs : List Point) → Keeps tally.now before → ShowsPoints has_arcs list.now arcs → result ≡ breaks_hart tally.now.harts what arcs }
 {
-    names_past(tally.harts, what) || is_list_past(tally.harts, points)
+    names_past(tally.harts, what) || is_list_past(tally.harts, has_arcs, list)
 }
 
 #[inline]
@@ -113,13 +127,10 @@ fn names_past(harts: u8, what: Record) -> bool
 }
 
 #[inline]
-fn is_list_past(harts: u8, points: &Points) -> bool
-    ensures { (arcs : List Point) → 1 ≤ harts → ShowsPoints points.now arcs → result ≡ list_any (λ point. nat_le harts point.hart) arcs }
+fn is_list_past(harts: u8, has_arcs: bool, list: &ArcList) -> bool
+    ensures { (arcs : List Point) → 1 ≤ harts → ShowsPoints has_arcs list.now arcs → result ≡ list_any (λ point. nat_le harts point.hart) arcs }
 {
-    match points {
-        Points::None => false,
-        Points::Some(list) => list.highest >= harts,
-    }
+    has_arcs && list.highest >= harts
 }
 
 /// Whether an event follows the end of its hart.
@@ -153,40 +164,33 @@ fn is_to_come(tally: &Tally, of: Point) -> bool
 }
 
 #[inline]
-fn has_bad_arcs(tally: &Tally, what: Record, points: &Points) -> bool
-    ensures { (before : List Entry) (arcs : List Point) → Keeps tally.now before → ShowsPoints points.now arcs → breaks_hart tally.now.harts what arcs ≡ false
+fn has_bad_arcs(tally: &Tally, what: Record, has_arcs: bool, list: &ArcList) -> bool
+    ensures { (before : List Entry) (arcs : List Point) → Keeps tally.now before → ShowsPoints has_arcs list.now arcs → breaks_hart tally.now.harts what arcs ≡ false
         → result ≡ breaks_arc before what arcs }
 {
-    match points {
-        Points::None => false,
-        Points::Some(list) => {
-            !list.rising || some_arc_is_bad(&list.arcs, record_hart(&what), &tally.numbers)
-        }
-    }
+    has_arcs && (!list.rising || some_arc_is_bad(&list.numbers, record_hart(&what), &tally.numbers))
 }
 
-/// Whether an arc is of the own hart, or from a record that has not come.
-fn some_arc_is_bad(arcs: &Arcs, own: u8, numbers: &[u32; 8]) -> bool
-    ensures { length arcs.now ≡ 8 → result ≡ list_any (λ point. (point.hart == own) || nat_lt (slice_index_or numbers.now point.hart 0) point.number) (points_from 0 arcs.now) }
-{
-    'harts: for hart in 0..8u8 {
-        if is_arc_bad(arcs.get(hart), hart, own, numbers) {
-            return true;
-        }
-    }
-    false
-}
-
+/// Whether an arc is of the own hart, or from a record that has not come: all eight harts are looked at, without a jump.
 #[inline]
-fn is_arc_bad(arc: Option<u32>, hart: u8, own: u8, numbers: &[u32; 8]) -> bool
-    requires { hart < 8 }
-    ensures some { (number : ℕ) → arc ≡ Some number → result ≡ ((hart == own) || nat_lt (slice_index_or numbers.now hart 0) number) }
-    ensures none { arc ≡ None → result ≡ false }
+fn some_arc_is_bad(arcs: &[u32; 8], own: u8, numbers: &[u32; 8]) -> bool
+    ensures { result ≡ list_any (λ point. (point.hart == own) || nat_lt (slice_index_or numbers.now point.hart 0) point.number) (points_from 0 (arcs_in arcs.now)) }
 {
-    match arc {
-        Some(number) => hart == own || numbers[usize::from(hart)] < number,
-        None => false,
+    let mut bad = false;
+    'harts: for hart in 0..8u8 {
+        let at = usize::from(hart);
+        bad |= is_arc_bad(arcs[at], hart == own, numbers[at]);
     }
+    bad
+}
+
+/// Whether an arc from that record of a hart, of which so many have come, is bad.
+#[inline]
+fn is_arc_bad(arc: u32, is_own: bool, come: u32) -> bool
+    ensures some { (number : ℕ) → arc_of arc ≡ Some number → result ≡ (is_own || nat_lt come number) }
+    ensures none { arc_of arc ≡ None → result ≡ false }
+{
+    (arc != 0) & (is_own | (come < arc))
 }
 
 /// Whether a notice is of the own hart or of a record that has come, or a record that is named is no alert event.
@@ -249,81 +253,56 @@ fn names(notice: Option<Point>, hart: u8, number: u32) -> bool
     }
 }
 
-#[inline]
-fn is_off_width(kind: Kind) -> bool
-    ensures { result ≡ is_misaligned kind }
-{
-    match kind {
-        Kind::Ld { width, addr, .. } => !is_load_aligned(addr, width),
-        Kind::St { width, addr, .. } => !is_store_aligned(addr, width),
-        _ => false,
-    }
-}
-
-#[inline]
+/// Whether the address of a load is a multiple of its width, by the bits that the width leaves.
+#[inline(always)]
 fn is_load_aligned(addr: u32, width: LoadWidth) -> bool
     ensures { result ≡ ((addr % load_bytes width) == 0) }
 {
-    match width {
-        LoadWidth::B | LoadWidth::Bu => true,
-        LoadWidth::H | LoadWidth::Hu => addr % 2 == 0,
-        LoadWidth::W => addr % 4 == 0,
-    }
+    let low_bits = match width {
+        LoadWidth::B | LoadWidth::Bu => 0,
+        LoadWidth::H | LoadWidth::Hu => 1,
+        LoadWidth::W => 3,
+    };
+    addr & low_bits == 0
 }
 
-#[inline]
+/// The same of a store.
+#[inline(always)]
 fn is_store_aligned(addr: u32, width: StoreWidth) -> bool
     ensures { result ≡ ((addr % store_bytes width) == 0) }
 {
-    match width {
-        StoreWidth::B => true,
-        StoreWidth::H => addr % 2 == 0,
-        StoreWidth::W => addr % 4 == 0,
-    }
+    let low_bits = match width {
+        StoreWidth::B => 0,
+        StoreWidth::H => 1,
+        StoreWidth::W => 3,
+    };
+    addr & low_bits == 0
 }
 
-#[inline]
-fn is_past_memory(kind: Kind) -> bool
-    ensures { result ≡ passes_end kind }
+/// Whether a range of bytes ends in memory.
+#[inline(always)]
+fn is_inside(addr: u32, len: u32) -> bool
+    ensures { result ≡ not (nat_lt (2 ^ 24) (addr + len)) }
 {
-    match kind {
-        Kind::Al { addr, len } | Kind::Fr { addr, len } => is_past(addr, len),
-        Kind::Rd { addr, len } | Kind::Wr { addr, len } => is_past(addr, len),
-        _ => false,
-    }
+    u64::from(addr) + u64::from(len) <= MEMORY
 }
 
-fn is_past(addr: u32, len: u32) -> bool
-    ensures { result ≡ nat_lt (2 ^ 24) (addr + len) }
+fn may_map(tally: &Tally, page: u16, count: u16) -> bool
+    ensures { (before : List Entry) → Keeps tally.now before → result ≡ not (is_bad_map before (Kind.Mp page count)) }
 {
-    u64::from(addr) + u64::from(len) > MEMORY
+    let first = u32::from(page);
+    let count = u32::from(count);
+    first + count <= PAGES
+        && !tally.pages.holds_some(first, count)
+        && u64::from(tally.pages.count()) + u64::from(count) <= MAX_MAPPED
 }
 
-#[inline]
-fn is_bad_mapping(tally: &Tally, kind: Kind) -> bool
-    ensures { (before : List Entry) → Keeps tally.now before → result ≡ is_bad_map before kind }
+fn may_unmap(tally: &Tally, page: u16, count: u16) -> bool
+    ensures { (before : List Entry) → Keeps tally.now before → result ≡ not (is_bad_map before (Kind.Um page count)) }
 {
-    match kind {
-        Kind::Mp { page, count } => is_bad_map(tally, u32::from(page), u32::from(count)),
-        Kind::Um { page, count } => is_bad_unmap(tally, u32::from(page), u32::from(count)),
-        _ => false,
-    }
-}
-
-fn is_bad_map(tally: &Tally, first: u32, count: u32) -> bool
-    requires { first + count < 2 ^ 32 }
-    ensures { (before : List Entry) → Keeps tally.now before → result ≡ is_bad_map before (Kind.Mp first count) }
-{
-    first + count > PAGES
-        || tally.pages.holds_some(first, count)
-        || u64::from(tally.pages.count()) + u64::from(count) > MAX_MAPPED
-}
-
-fn is_bad_unmap(tally: &Tally, first: u32, count: u32) -> bool
-    requires { first + count < 2 ^ 32 }
-    ensures { (before : List Entry) → Keeps tally.now before → result ≡ is_bad_map before (Kind.Um first count) }
-{
-    first + count > PAGES || tally.pages.lacks_some(first, count)
+    let first = u32::from(page);
+    let count = u32::from(count);
+    first + count <= PAGES && !tally.pages.lacks_some(first, count)
 }
 
 /// Whether a notice waits for its event.

@@ -1,19 +1,14 @@
-ghost use Rattle.std.specs.Prelude.{◌≡◌, ◌++◌, ◌∷◌, []};
+ghost use Rattle.std.specs.Prelude.{◌≡◌, ◌++◌, ◌∷◌, [], ◌≤◌};
+ghost use Rattle.log_text.specs.Arcs.{arc_of as arc_of_number};
 
 use pl_event::{Arcs, Point};
 
-/// The arcs of a line as they were read.
-#[derive(Clone, Copy)]
-pub enum Points {
-    None,
-    Some(ArcList),
-}
-
-/// What the rules ask of one arc or more, and the arcs themselves where their harts rise.
+/// The arcs of a line as they were read, and what the rules ask of them.
 #[derive(Clone, Copy)]
 pub struct ArcList {
-    /// The arcs, as far as their harts rise and are below 8.
-    pub arcs: Arcs,
+    /// For each hart the number of the record that its arc is from, and 0 for no arc, as far as the harts rise and are
+    /// below 8.
+    pub numbers: [u32; 8],
     /// The highest hart that is named.
     pub highest: u8,
     /// The least hart that can follow.
@@ -22,26 +17,10 @@ pub struct ArcList {
     pub rising: bool,
 }
 
-impl Points {
-    ghost use Rattle.std.specs.Prelude.{None, replicate};
-    ghost use Rattle.log_text.specs.declared.points.ArcList.{ArcList};
-
-    /// The arcs of a line that keeps the rules.
-    pub fn arcs(&self) -> Arcs
-        ensures some { (list : ArcList) → self.now ≡ Points.Some list → result ≡ list.arcs }
-        ensures none { self.now ≡ Points.None → result ≡ replicate 8 None }
-    {
-        match self {
-            Points::None => Arcs::none(),
-            Points::Some(list) => list.arcs,
-        }
-    }
-}
-
 impl ArcList {
-    ghost use Rattle.std.specs.Prelude.{List, ◌<◌, ◌≤◌};
+    ghost use Rattle.std.specs.Prelude.{List, ◌<◌};
     ghost use Rattle.pl_event.specs.declared.log.Point.{Point};
-    ghost use Rattle.log_text.specs.Arcs.{Sums};
+    ghost use Rattle.log_text.specs.Arcs.{Sums, arcs_in};
 
     /// No arc.
     #[inline]
@@ -49,17 +28,29 @@ impl ArcList {
         ensures { Sums result [] }
     {
         ArcList {
-            arcs: Arcs::none(),
+            numbers: [0; 8],
             highest: 0,
             next: 0,
             rising: true,
         }
     }
 
+    /// The arcs of a line that keeps the rules.
+    pub fn arcs(&self) -> Arcs
+        ensures { result ≡ arcs_in self.now.numbers }
+    {
+        let mut arcs = Arcs::none();
+        'harts: for hart in 0..8u8 {
+            arcs.set(hart, arc_of(self.numbers[usize::from(hart)]));
+        }
+        arcs
+    }
+
     /// One more arc behind those so far.
     #[inline]
     pub fn add(&mut self, point: Point)
-        requires { point.hart ≤ 9 }
+        requires hart { point.hart ≤ 9 }
+        requires some { 1 ≤ point.number }
         ensures { (points : List Point) → Sums self.old points → Sums self.new (points ++ point ∷ []) }
     {
         let hart = point.hart;
@@ -67,7 +58,14 @@ impl ArcList {
         self.highest = self.highest.max(hart);
         self.next = hart + 1;
         if self.rising & (hart < 8) {
-            self.arcs.set(hart, Some(point.number));
+            self.numbers[usize::from(hart)] = point.number;
         }
     }
+}
+
+/// The arc that a number of the list stands for.
+fn arc_of(number: u32) -> Option<u32>
+    ensures { result ≡ arc_of_number number }
+{
+    if number == 0 { None } else { Some(number) }
 }

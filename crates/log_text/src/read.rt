@@ -81,7 +81,7 @@ fn read_line(reader: &mut LogReader, bytes: &[u8], lines: &mut Lines) -> Result<
 {
     match reader.next(bytes) {
         Ok(Some(row)) => {
-            push(lines, &row)?;
+            push(lines, reader, &row)?;
             Ok(true)
         }
         Ok(None) => Ok(false),
@@ -91,11 +91,11 @@ fn read_line(reader: &mut LogReader, bytes: &[u8], lines: &mut Lines) -> Result<
 
 /// One more line.
 #[inline]
-fn push(lines: &mut Lines, row: &Row) -> Result<(), AllocError>
-    ensures { OnOk result (lines.new ≡ lines.old ++ line_of row.now ∷ []) }
+fn push(lines: &mut Lines, reader: &LogReader, row: &Row) -> Result<(), AllocError>
+    ensures { OnOk result (lines.new ≡ lines.old ++ line_of reader.now row.now ∷ []) }
 {
-    if row.has_arcs() {
-        lines.push(row.line())
+    if row.has_arcs {
+        lines.push(reader.line(row))
     } else {
         lines.push_record(row.what)
     }

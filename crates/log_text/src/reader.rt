@@ -10,15 +10,17 @@ ghost use Rattle.log_text.specs.Reading.{HasRead, IsReadBy, ReadsRow, IsOnly, Is
 use crate::cause::{LogCause, LogFault, LogRefused};
 use crate::grammar::{header_at, page_at, row_at};
 use crate::judge::{judge_page, judge_row, some_is_open};
-use crate::points::Points;
+use crate::points::ArcList;
 use crate::tally::Tally;
-use pl_event::{Line, PageRuns, Record};
+use pl_event::{Arcs, Line, PageRuns, Record};
 use std::alloc::Global;
 
 /// A reader of a log, between two lines.
 #[derive(Drop)]
 pub struct LogReader {
     tally: Tally,
+    /// The arcs of the last record line that has some.
+    arcs: ArcList,
     /// The number of the next line, counted from 1.
     line: u32,
     /// How many bytes were read.
@@ -34,35 +36,11 @@ pub struct Opening {
     pub reader: LogReader,
 }
 
-/// A record line of a log.
+/// The record of a line; its arcs, if it has some, stay with the reader until the next line is read.
 #[derive(Clone, Copy)]
 pub struct Row {
     pub what: Record,
-    points: Points,
-}
-
-impl Row {
-    ghost use Rattle.std.specs.Prelude.{false, replicate, None};
-    ghost use Rattle.log_text.specs.Reading.{arcs_of};
-
-    /// Whether the record has arcs.
-    #[inline]
-    pub fn has_arcs(&self) -> bool
-        ensures { result ≡ false → arcs_of self.now.points ≡ replicate 8 None }
-    {
-        matches!(self.points, Points::Some(_))
-    }
-
-    /// The record with its arcs.
-    #[inline]
-    pub fn line(&self) -> Line
-        ensures { result ≡ line_of self.now }
-    {
-        Line {
-            what: self.what,
-            arcs: self.points.arcs(),
-        }
-    }
+    pub has_arcs: bool,
 }
 
 impl LogReader {
@@ -83,6 +61,7 @@ impl LogReader {
         };
         let mut reader = LogReader {
             tally: Tally::new(alloc, harts)?,
+            arcs: ArcList::new(),
             line: 2,
             at: bytes.len() - rest.len(),
         };
@@ -131,15 +110,29 @@ impl LogReader {
         ensures fault { (log : Log) → HasRead self.old bytes.now log → IfErr result (IsNoLog bytes.now) }
     {
         let (_, rest) = bytes.split_at(self.at);
-        let Some((what, points, after)) = row_at(rest) else {
+        let Some((what, has_arcs, after)) = row_at(rest, &mut self.arcs) else {
             return self.finish(rest);
         };
-        if let Some(cause) = judge_row(&self.tally, what, &points) {
+        if let Some(cause) = judge_row(&self.tally, what, has_arcs, &self.arcs) {
             return Err(self.fault(cause));
         }
         self.tally.add_row(what);
         self.pass(bytes, after);
-        Ok(Some(Row { what, points }))
+        Ok(Some(Row { what, has_arcs }))
+    }
+
+    /// The row that was read last, with its arcs.
+    pub fn line(&self, row: &Row) -> Line
+        ensures { result ≡ line_of self.now row.now }
+    {
+        Line {
+            what: row.what,
+            arcs: if row.has_arcs {
+                self.arcs.arcs()
+            } else {
+                Arcs::none()
+            },
+        }
     }
 
     /// Takes note that a line was read up to what stands behind it.

@@ -1,18 +1,17 @@
 -- Playing one more line.
 use Rattle.std.specs.Prelude.{Ok}
-use Rattle.std.proofs.Common.{◌≡◌, Option, Some, ℕ, suc, ◌+◌, ◌<◌, ◌≤◌, List, [], ◌∷◌, ◌++◌, length, refl, sym, ap, subst, ◌∙◌, arith}
+use Rattle.std.proofs.Common.{◌≡◌, Option, Some, ℕ, suc, ◌<◌, ◌≤◌, List, [], ◌∷◌, ◌++◌, length, sym, subst, arith}
 use Rattle.std.specs.List.{cons_option}
 use Rattle.std.proofs.lemmas.List.Elements.{filter_map-append}
 use Rattle.pl_event.specs.declared.event.Event.{Event}
 use Rattle.pl_event.specs.declared.log.Line.{Line}
-use Rattle.pl_event.specs.declared.log.Log.{Log}
 use Rattle.pl_event.specs.declared.log.Record.{Record}
 use Rattle.pl_event.specs.declared.log.Record.TheVariants as entry
 use Rattle.pl_event.specs.Numbers.{events_of, event_of}
 use Rattle.log_text.specs.declared.reader.LogReader.{LogReader}
 use Rattle.log_text.specs.declared.reader.Row.{Row}
 use Rattle.log_text.specs.Parts.{IsValidRecord}
-use Rattle.log_text.specs.Reading.{HasRead, ReadsRow, IfRow, IsOnly, with_line, line_of}
+use Rattle.log_text.specs.Reading.{ReadsRow, IfRow, IsOnly, with_line, line_of}
 use Rattle.lifeguard.specs.Rules.{Rules}
 use Rattle.lifeguard.specs.declared.shadow.Shadow.{Shadow}
 use Rattle.lifeguard.specs.Stands.{Stands, place_of}
@@ -41,10 +40,10 @@ events-line lines line = filter_map-append (λ l. event_of l.what) lines (line �
 pub plays_row : (rules : Rules) (harts : ℕ) (reader new : LogReader) (bytes : List ℕ) (shadow after : Shadow) (row : Row) (playing : IsPlaying rules harts reader bytes shadow) → ReadsRow new bytes playing.log row
     → Stands rules playing.log.pages (events_of playing.log.lines ++ cons_option (event_of row.what) []) after → IsPlaying rules harts new bytes after
 plays_row rules harts reader new bytes shadow after row playing reads stands = record {
-  log = with_line playing.log (line_of row);
+  log = with_line playing.log (line_of new row);
   same = playing.same;
   read = reads.read;
-  stands = subst (λ (events : List Event). Stands rules playing.log.pages events after) (sym (events-line playing.log.lines (line_of row))) stands;
+  stands = subst (λ (events : List Event). Stands rules playing.log.pages events after) (sym (events-line playing.log.lines (line_of new row))) stands;
 }
 
 -- the log has ended

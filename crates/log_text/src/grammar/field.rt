@@ -1,4 +1,6 @@
-ghost use Rattle.std.specs.Prelude.{◌≡◌, ◌<◌, ◌≤◌, ◌^◌, ℕ, [], ◌∷◌};
+ghost use Rattle.std.specs.Prelude.{◌≡◌, ◌<◌, ◌≤◌, ◌^◌, ℕ, [], ◌∷◌, Some, IfSome, if◌then◌else◌};
+ghost use Rattle.pl_base.specs.declared.widths.LoadWidth.{LoadWidth};
+ghost use Rattle.pl_base.specs.declared.widths.StoreWidth.{StoreWidth};
 ghost use Rattle.pl_event.specs.Valid.{IsRegister};
 ghost use Rattle.std.specs.Fmt.{decimal};
 ghost use Rattle.log_text.specs.Form.{IsBlock, IsPages};
@@ -7,7 +9,7 @@ ghost use Rattle.log_text.specs.Reads.{Reads, IsAny, IsFrom, IsAccess, AreTwo, A
 
 use pl_base::{FaultCause, LoadWidth, StoreWidth};
 use pl_event::PageKind;
-use pl_text::{after_byte, after_word, decimal_at, first_byte, hex_at};
+use pl_text::{after_byte, after_word, decimal_at, digit_at, first_byte, hex_at};
 
 /// A number of base 10.
 #[inline(always)]
@@ -100,6 +102,51 @@ pub fn access(text: &[u8]) -> Option<((u8, u8, u32), &[u8])>
     Some(((value, base, addr), rest))
 }
 
+/// The place of a letter among `b`, `h` and `w`, and 3 for any other byte, by arithmetic: widths come in any order, so
+/// that a jump would be guessed wrong.
+#[inline(always)]
+fn place_of(letter: u8) -> u8
+    ensures byte { letter ≡ 98 → result ≡ 0 }
+    ensures half { letter ≡ 104 → result ≡ 1 }
+    ensures word { letter ≡ 119 → result ≡ 2 }
+    ensures other { (letter ≡ 98 → ⊥) → (letter ≡ 104 → ⊥) → (letter ≡ 119 → ⊥) → result ≡ 3 }
+{
+    let is_byte = u8::from(letter == b'b');
+    let is_half = u8::from(letter == b'h');
+    let is_word = u8::from(letter == b'w');
+    3 - 3 * is_byte - 2 * is_half - is_word
+}
+
+/// The width of a load by its first letter, and whether a `u` stands behind it.
+#[inline(always)]
+fn load_width_of(letter: u8, is_unsigned: bool) -> Option<LoadWidth>
+    ensures found { IfSome result (λ width. load_word width ≡ letter ∷ (if is_unsigned then 117 ∷ [] else [])) }
+    ensures every { (width : LoadWidth) → load_word width ≡ letter ∷ (if is_unsigned then 117 ∷ [] else []) → result ≡ Some width }
+{
+    match place_of(letter) + 4 * u8::from(is_unsigned) {
+        0 => Some(LoadWidth::B),
+        1 => Some(LoadWidth::H),
+        2 => Some(LoadWidth::W),
+        4 => Some(LoadWidth::Bu),
+        5 => Some(LoadWidth::Hu),
+        _ => None,
+    }
+}
+
+/// The width of a store by its letter.
+#[inline(always)]
+fn store_width_of(letter: u8) -> Option<StoreWidth>
+    ensures found { IfSome result (λ width. store_word width ≡ letter ∷ []) }
+    ensures every { (width : StoreWidth) → store_word width ≡ letter ∷ [] → result ≡ Some width }
+{
+    match place_of(letter) {
+        0 => Some(StoreWidth::B),
+        1 => Some(StoreWidth::H),
+        2 => Some(StoreWidth::W),
+        _ => None,
+    }
+}
+
 /// The width of a load.
 #[inline(always)]
 pub fn load_width(text: &[u8]) -> Option<(LoadWidth, &[u8])>
@@ -107,19 +154,9 @@ pub fn load_width(text: &[u8]) -> Option<(LoadWidth, &[u8])>
 {
     let rest = after_byte(text, b' ')?;
     let (letter, rest) = first_byte(rest)?;
-    if let Some(rest) = after_byte(rest, b'u') {
-        return match letter {
-            b'b' => Some((LoadWidth::Bu, rest)),
-            b'h' => Some((LoadWidth::Hu, rest)),
-            _ => None,
-        };
-    }
-    match letter {
-        b'b' => Some((LoadWidth::B, rest)),
-        b'h' => Some((LoadWidth::H, rest)),
-        b'w' => Some((LoadWidth::W, rest)),
-        _ => None,
-    }
+    let is_unsigned = after_byte(rest, b'u').is_some();
+    let width = load_width_of(letter, is_unsigned)?;
+    Some((width, &rest[usize::from(is_unsigned)..]))
 }
 
 /// The width of a store.
@@ -129,12 +166,8 @@ pub fn store_width(text: &[u8]) -> Option<(StoreWidth, &[u8])>
 {
     let rest = after_byte(text, b' ')?;
     let (letter, rest) = first_byte(rest)?;
-    match letter {
-        b'b' => Some((StoreWidth::B, rest)),
-        b'h' => Some((StoreWidth::H, rest)),
-        b'w' => Some((StoreWidth::W, rest)),
-        _ => None,
-    }
+    let width = store_width_of(letter)?;
+    Some((width, rest))
 }
 
 /// Why a hart faulted.
@@ -175,6 +208,5 @@ pub fn hart(text: &[u8]) -> Option<(u8, &[u8])>
     ensures { Reads (λ hart. hart ≤ 9) (λ hart. (104 ∷ decimal hart) ∷ []) (32 ∷ text.now) result }
 {
     let rest = after_byte(text, b'h')?;
-    let (hart, rest) = decimal_at(rest, 9)?;
-    Some((hart as u8, rest))
+    digit_at(rest)
 }

@@ -39,7 +39,7 @@ pub fn kind_at(text: &[u8]) -> Option<(Kind, &[u8])>
     }
 }
 
-#[inline(always)]
+#[inline(never)]
 fn load(text: &[u8]) -> Option<(Kind, &[u8])>
     ensures { Reads (IsKindOf (codes "ld")) operands text.now result }
 {
@@ -56,7 +56,7 @@ fn load(text: &[u8]) -> Option<(Kind, &[u8])>
     ))
 }
 
-#[inline(always)]
+#[inline(never)]
 fn store(text: &[u8]) -> Option<(Kind, &[u8])>
     ensures { Reads (IsKindOf (codes "st")) operands text.now result }
 {

@@ -10,4 +10,4 @@ pub returns-in_default-clause-missed : goal.returns-in_default-clause-missed
 returns-in_default-clause-missed c = no_end c.args.bytes.now c.in_ok-what.what c.in_ok-what.rest c.in_ok-what.ensures c.in_default.ensures.missed
 
 pub returns-clause-found : goal.returns-clause-found
-returns-clause-found c = row_found c.args.bytes.now c.in_ok-what.what c.in_ok-what.rest c.in-Some.points c.in-Some.rest.now c.in_ok-what.ensures c.in-Some.ensures.found
+returns-clause-found c = row_found c.args.bytes.now c.in_ok-what.what c.in_ok-what.rest c.in-Some.has_arcs c.end_at.new.list c.in-Some.rest.now c.in_ok-what.ensures c.in-Some.ensures.found

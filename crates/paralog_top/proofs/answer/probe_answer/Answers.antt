@@ -1,4 +1,4 @@
-use Rattle.std.proofs.Common.{ℕ, List, IfOk, map, string_bytes, sym, subst}
+use Rattle.std.proofs.Common.{ℕ, List, map, subst}
 use Rattle.paralog_top.specs.Defined.{IsProbed}
 use Rattle.paralog_top.proofs.answer.probe_answer.Goals as goal
 

@@ -1,5 +1,5 @@
 use Rattle.std.proofs.Common.{◌≡◌, ◌∷◌, ◌∙◌, ℕ, List, MatchOption, map, ap, sym, subst, string_bytes}
-use Rattle.paralog_top.specs.Commands.{IsCommand, IsNoCommand, names_of as names_of_words}
+use Rattle.paralog_top.specs.Commands.{IsCommand, IsNoCommand}
 use Rattle.paralog_top.proofs.Names.{two_words}
 use Rattle.paralog_top.proofs.command.parse_command.Goals as goal
 

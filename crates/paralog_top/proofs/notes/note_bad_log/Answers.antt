@@ -1,4 +1,4 @@
-use Rattle.std.proofs.Common.{List, ℕ, ◌∙◌, subst}
+use Rattle.std.proofs.Common.{◌∙◌, subst}
 use Rattle.paralog_top.specs.Endings.{Noted}
 use Rattle.paralog_top.proofs.notes.note_bad_log.Goals as goal
 

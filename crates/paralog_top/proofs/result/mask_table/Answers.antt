@@ -1,4 +1,4 @@
-use Rattle.std.proofs.Common.{◌≡◌, ◌∙◌, ◌++◌, ◌∷◌, [], List, ℕ, ap, sym}
+use Rattle.std.proofs.Common.{◌∙◌, ◌++◌, ◌∷◌, [], List, ℕ, ap, sym}
 use Rattle.lifeguard.specs.Stands.{state_of}
 use Rattle.paralog_top.specs.Defined.{mask_row}
 use Rattle.paralog_top.proofs.RowLemmas.{map_span-more}

@@ -1,4 +1,4 @@
-use Rattle.std.proofs.Common.{◌≡◌, ◌≤◌, ◌∙◌, ℕ, List, length, map, string_bytes, sym, ap, subst, rules, arith}
+use Rattle.std.proofs.Common.{◌≤◌, ◌∙◌, ℕ, List, length, map, string_bytes, sym, subst, rules}
 use Rattle.std.proofs.lemmas.Option.{IfSome_then}
 use Rattle.pl_base.specs.Fronts.{AppendsLess}
 use Rattle.paralog_top.specs.Commands.{names_of}

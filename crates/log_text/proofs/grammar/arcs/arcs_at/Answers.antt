@@ -9,10 +9,10 @@ returns-in_default-list_at-clause-missed c =
 pub returns-in_err-rest-2-clause-missed : goal.returns-in_err-rest-2-clause-missed
 returns-in_err-rest-2-clause-missed c =
     if_none c.from_residual-in_err-rest-2.result (EndsWithNone c.args.what c.args.text.now) c.from_residual-in_err-rest-2.ensures
-    (ends_unfed c.args.what c.args.text.now c.in_ok-rest.rest.now c.in-Some-list_at.rest.now c.in-Some-list_at.list (λ after e. c.in_default.ensures.every after e) c.in_ok-rest.ensures.found c.in-Some-list_at.ensures.found
+    (ends_unfed c.args.what c.args.text.now c.in_ok-rest.rest.now c.in-Some-list_at.rest.now c.list_at.new.list (λ after e. c.in_default.ensures.every after e) c.in_ok-rest.ensures.found c.in-Some-list_at.ensures.found
     (λ after e. c.in_err-rest-2.ensures.every after e))
 
 pub returns-clause-found : goal.returns-clause-found
 returns-clause-found c =
-    ends_listed c.args.what c.args.text.now c.in_ok-rest.rest.now c.in-Some-list_at.rest.now c.in_ok-rest-2.rest.now c.in-Some-list_at.list c.requires (λ after e. c.in_default.ensures.every after e) c.in_ok-rest.ensures.found
+    ends_listed c.args.what c.args.text.now c.in_ok-rest.rest.now c.in-Some-list_at.rest.now c.in_ok-rest-2.rest.now c.list_at.new.list c.requires (λ after e. c.in_default.ensures.every after e) c.in_ok-rest.ensures.found
     c.in-Some-list_at.ensures.found c.in_ok-rest-2.ensures.found

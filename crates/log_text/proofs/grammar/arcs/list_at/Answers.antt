@@ -12,7 +12,7 @@ returns-in_err-first-clause-missed c =
     c.from_residual.ensures (none_read c.args.text.now c.in_err-first.ensures)
 
 pub points-init : goal.points-init
-points-init c = record { far = first_point c.args.text.now c.in_ok-first.first c.in_ok-first.rest c.before.add.new.self c.in_ok-first.ensures (c.before.add.ensures [] c.before.new-list.ensures) }
+points-init c = record { far = first_point c.args.text.now c.in_ok-first.first c.in_ok-first.rest c.add.new.self c.in_ok-first.ensures (c.add.ensures [] c.new.ensures) }
 
 pub returns-in_default-point_at-clause-missed : goal.returns-in_default-point_at-clause-missed
 returns-in_default-point_at-clause-missed c = none_behind c.args.text.now c.points.rest.now c.in-Some.behind.now c.points.list c.points.invariant.far c.in-Some.ensures.found c.in_default-point_at.ensures

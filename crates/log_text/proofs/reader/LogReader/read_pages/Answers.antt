@@ -47,8 +47,8 @@ pages-preserved c = record {
       let unbroken : broken c.pages.self.tally.harts entries (page c.in-Some.run') ≡ None = sym (c.in_default-judge_page.ensures entries now.keeps) in
       let kept = ap (λ (h : ℕ). broken h entries (page c.in-Some.run')) (sym now.harts) ∙ unbroken in
       rw c.pass.ensures
-      (subst (λ (ps : List PageRun). IsReadBy (passed c.pages.self c.add_page.new.self c.args.bytes.now c.in-Some.after.now) c.args.bytes.now (paged log ps)) (sym c.in_ok-push.ensures.ok)
-      (by_pages c.pages.self c.add_page.new.self c.args.bytes.now c.in-Some.after.now (paged log c.pages.pages) c.in-Some.run' c.requires.few bare now begins kept c.add_page.ensures.harts
+      (subst (λ (ps : List PageRun). IsReadBy (passed c.pages.self c.add_page.new.self c.pages.self.arcs c.args.bytes.now c.in-Some.after.now) c.args.bytes.now (paged log ps)) (sym c.in_ok-push.ensures.ok)
+      (by_pages c.pages.self c.add_page.new.self c.pages.self.arcs c.args.bytes.now c.in-Some.after.now (paged log c.pages.pages) c.in-Some.run' c.requires.few bare now begins kept c.add_page.ensures.harts
       (c.add_page.ensures.keeps entries now.keeps unbroken)));
 }
 

@@ -1,3 +1,4 @@
 pub mod CellLemmas
 pub mod MaskLemmas
+pub mod PageLemmas
 pub mod PlainLemmas

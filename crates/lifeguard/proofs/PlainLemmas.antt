@@ -12,7 +12,7 @@ use Rattle.pl_event.specs.Numbers.{events_on}
 use Rattle.lifeguard.specs.Rules.{Rules}
 use Rattle.lifeguard.specs.State.{State, Bytes, Masks, first_state}
 use Rattle.lifeguard.specs.Plain.{rule, stand_behind, plain_from, plain_result, masks_after, bytes_after, reports_of}
-use Rattle.lifeguard.specs.Stands.{Stands, Begins, IsStep, next_stand, state_of, state_from, bytes_of, masks_of}
+use Rattle.lifeguard.specs.Stands.{Stands, Begins, IsStep, next_stand, state_of, state_from, bytes_in, masks_of}
 use Rattle.lifeguard.specs.declared.shadow.Shadow.{Shadow}
 use Rattle.lifeguard.specs.declared.report.Report.{Report}
 use Rattle.lifeguard.specs.declared.report.Stand.{Stand}
@@ -36,20 +36,21 @@ bytes_after-masks_after rules hart (Wr addr len) bytes masks = refl
 bytes_after-masks_after rules hart Ex bytes masks = refl
 bytes_after-masks_after rules hart (Ft cause addr) bytes masks = refl
 
--- reports first, then masks, then bytes make one step
-pub state_after : (rules : Rules) (at : Stand) (kind : Kind) (cells read seen written after : List ℕ) (masks marked : List (List ℕ)) (reports told : List Report)
-    → read ≡ cells → seen ≡ cells → written ≡ cells
+-- room first, then reports, then masks, then bytes make one step
+pub state_after : (rules : Rules) (at : Stand) (kind : Kind) (pages read seen written after : List (List ℕ)) (masks marked : List (List ℕ)) (reports told : List Report)
+    → bytes_in read ≡ bytes_in pages → bytes_in seen ≡ bytes_in pages → bytes_in written ≡ bytes_in pages
     → told ≡ reports ++ reports_of rules at kind (state_from read masks [])
-    → masks_of marked ≡ masks_after rules at.hart kind (bytes_of seen) (masks_of masks)
-    → bytes_of after ≡ bytes_after rules at.hart kind (bytes_of written) (masks_of marked)
-    → state_from after marked told ≡ rule rules at kind (state_from cells masks reports)
+    → masks_of marked ≡ masks_after rules at.hart kind (bytes_in seen) (masks_of masks)
+    → bytes_in after ≡ bytes_after rules at.hart kind (bytes_in written) (masks_of marked)
+    → state_from after marked told ≡ rule rules at kind (state_from pages masks reports)
 unfolding rule
-state_after rules at kind cells read seen written after masks marked reports told e f g tells marks changes =
-    let whole : bytes_of after ≡ bytes_after rules at.hart kind (bytes_of cells) (masks_of masks) =
-    changes ∙ ap (λ (c : List ℕ). bytes_after rules at.hart kind (bytes_of c) (masks_of marked)) g ∙ ap (bytes_after rules at.hart kind (bytes_of cells)) (marks ∙ ap (λ (c : List ℕ). masks_after rules at.hart kind (bytes_of c) (masks_of masks)) f)
-    ∙ bytes_after-masks_after rules at.hart kind (bytes_of cells) (masks_of masks) in
-    let kept : masks_of marked ≡ masks_after rules at.hart kind (bytes_of cells) (masks_of masks) = marks ∙ ap (λ (c : List ℕ). masks_after rules at.hart kind (bytes_of c) (masks_of masks)) f in
-    let said : told ≡ reports ++ reports_of rules at kind (state_from cells masks []) = tells ∙ ap (λ (c : List ℕ). reports ++ reports_of rules at kind (state_from c masks [])) e in
+state_after rules at kind pages read seen written after masks marked reports told e f g tells marks changes =
+    let kept : masks_of marked ≡ masks_after rules at.hart kind (bytes_in pages) (masks_of masks) = marks ∙ ap (λ (b : Bytes). masks_after rules at.hart kind b (masks_of masks)) f in
+    let whole : bytes_in after ≡ bytes_after rules at.hart kind (bytes_in pages) (masks_of masks) =
+    changes ∙ ap (λ (b : Bytes). bytes_after rules at.hart kind b (masks_of marked)) g ∙ ap (bytes_after rules at.hart kind (bytes_in pages)) kept
+    ∙ bytes_after-masks_after rules at.hart kind (bytes_in pages) (masks_of masks) in
+    let said : told ≡ reports ++ reports_of rules at kind (state_from pages masks []) =
+    tells ∙ ap (λ (b : Bytes). reports ++ reports_of rules at kind (record { bytes = b; masks = masks_of masks; reports = [] })) e in
     rw (whole, kept, said) refl
 
 -- one hart's count rises

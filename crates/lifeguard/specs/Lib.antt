@@ -1,4 +1,5 @@
 pub mod Checks
+pub mod Pages
 pub mod Plain
 pub mod Rules
 pub mod Stands

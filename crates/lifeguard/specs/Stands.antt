@@ -1,11 +1,12 @@
 -- What a monitor keeps, as a state, and what it stands for.
-use Rattle.std.specs.Prelude.{◌≡◌, ℕ, ◌+◌, ◌<◌, List, [], length, Option, Some, None, slice_index, slice_index_or, ◌==◌, nat_lt, if◌then◌else◌}
+use Rattle.std.specs.Prelude.{◌≡◌, ℕ, ◌+◌, ◌/◌, ◌%◌, ◌<◌, List, [], length, Option, Some, None, slice_index, slice_index_or, ◌==◌, nat_lt, if◌then◌else◌}
 use Rattle.pl_event.specs.declared.event.Event.{Event}
 use Rattle.pl_event.specs.declared.log.PageRun.{PageRun}
 use Rattle.pl_event.specs.Numbers.{events_on}
 use Rattle.lifeguard.specs.declared.shadow.Shadow.{Shadow}
 use Rattle.lifeguard.specs.declared.report.Report.{Report}
 use Rattle.lifeguard.specs.declared.report.Stand.{Stand}
+use Rattle.lifeguard.specs.Pages.{page_of}
 use Rattle.lifeguard.specs.Rules.{Rules}
 use Rattle.lifeguard.specs.State.{State, Bytes, Masks, first_state}
 use Rattle.lifeguard.specs.Plain.{rule, plain_result}
@@ -17,14 +18,18 @@ cell_value cell = if nat_lt cell 8 then Some cell else None
 unfoldable pub bytes_of : List ℕ → Bytes
 bytes_of cells a = cell_value (slice_index_or cells a 8)
 
+-- the bytes of pages of 4,096 cells, or of none where no byte is mapped
+unfoldable pub bytes_in : List (List ℕ) → Bytes
+bytes_in pages a = bytes_of (page_of pages (a / 4096)) (a % 4096)
+
 unfoldable pub masks_of : List (List ℕ) → Masks
 masks_of masks h r = slice_index (slice_index_or masks h []) r
 
-abbrev pub state_from : List ℕ → List (List ℕ) → List Report → State
-state_from cells masks reports = record { bytes = bytes_of cells; masks = masks_of masks; reports = reports }
+abbrev pub state_from : List (List ℕ) → List (List ℕ) → List Report → State
+state_from pages masks reports = record { bytes = bytes_in pages; masks = masks_of masks; reports = reports }
 
 abbrev pub state_of : Shadow → State
-state_of shadow = state_from shadow.cells.items shadow.masks shadow.reports.items
+state_of shadow = state_from shadow.pages.items shadow.masks shadow.reports.items
 
 -- how many events were applied
 abbrev pub place_of : Shadow → ℕ

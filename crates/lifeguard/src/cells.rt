@@ -1,19 +1,17 @@
-//! Cells, one for each byte of memory: a nibble below 8, or 8 for a byte of no mapped page.
-ghost use Rattle.std.specs.Prelude.{◌≡◌, ℕ, ◌+◌, ◌-◌, ◌<◌, ◌≤◌, ◌^◌, length, find, option_map, All, fold, IfOk, vec_len};
+//! Cells, one for each byte of a page: a nibble below 8, or 8 for a byte of no mapped page.
+ghost use Rattle.std.specs.Prelude.{◌≡◌, ◌+◌, ◌<◌, ◌≤◌, ◌^◌, length, find, option_map, IfSome};
 ghost use Rattle.pl_base.specs.Widths.{load_bytes, store_bytes};
 ghost use Rattle.lifeguard.specs.Rules.{Rules};
-ghost use Rattle.lifeguard.specs.State.{changed, replaced, paged, nothing, nibble_at as nibble_of_byte, span};
+ghost use Rattle.lifeguard.specs.State.{changed, replaced, nibble_at as nibble_of_byte, span};
 ghost use Rattle.lifeguard.specs.Stands.{bytes_of, cell_value};
 ghost use Rattle.lifeguard.specs.Plain.{stored, mask_bit, loaded_mask as mask_of_bytes};
 ghost use Rattle.lifeguard.specs.Checks.{is_bad as is_bad_nibble};
 
 use crate::guard::{Lifeguard, RangeKind, load_mask};
-use pl_base::{LoadWidth, NoMemory};
-use pl_event::{PageKind, PageRun};
-use std::alloc::Global;
+use pl_base::LoadWidth;
 
 /// The cell of a byte of no mapped page.
-const UNMAPPED: u8 = 8;
+pub const UNMAPPED: u8 = 8;
 
 /// What is asked of each byte of a range.
 #[derive(Clone, Copy)]
@@ -27,7 +25,8 @@ pub enum Check {
 /// The nibble of a byte; none for a byte of no mapped page, and past the end.
 #[inline]
 pub fn byte_at(cells: &[u8], addr: u32) -> Option<u8>
-    ensures { result ≡ bytes_of cells.now addr }
+    ensures value { result ≡ bytes_of cells.now addr }
+    ensures small { IfSome result (λ nibble. nibble < 8) }
 {
     if (addr as usize) < cells.len() {
         value_of(cells[addr as usize])
@@ -38,7 +37,8 @@ pub fn byte_at(cells: &[u8], addr: u32) -> Option<u8>
 
 #[inline]
 fn value_of(cell: u8) -> Option<u8>
-    ensures { result ≡ cell_value cell }
+    ensures value { result ≡ cell_value cell }
+    ensures small { IfSome result (λ nibble. nibble < 8) }
 {
     if cell < 8 { Some(cell) } else { None }
 }
@@ -46,16 +46,18 @@ fn value_of(cell: u8) -> Option<u8>
 /// The nibble that a byte reads as.
 #[inline]
 pub fn nibble_at(cells: &[u8], addr: u32) -> u8
-    requires { addr < length cells.now }
     ensures value { result ≡ nibble_of_byte (bytes_of cells.now) addr }
     ensures small { result < 8 }
 {
-    let cell = cells[addr as usize];
-    if cell < 8 { cell } else { 0 }
+    match byte_at(cells, addr) {
+        Some(nibble) => nibble,
+        None => 0,
+    }
 }
 
+/// Whether a nibble fails the check.
 #[inline]
-fn is_bad<L: Lifeguard>(guard: L, check: Check, nibble: u8) -> bool
+pub fn is_bad<L: Lifeguard>(guard: L, check: Check, nibble: u8) -> bool
     requires { nibble < 8 }
     ensures { result ≡ is_bad_nibble (L.rules guard) check nibble }
 {
@@ -74,9 +76,9 @@ pub fn first_bad<L: Lifeguard>(
     addr: u32,
     len: u32,
 ) -> Option<u32>
-    requires inside { addr + len ≤ length cells.now }
-    requires below { addr + len < 2 ^ 32 }
-    ensures { result ≡ find (λ a. is_bad_nibble (L.rules guard) check (nibble_of_byte (bytes_of cells.now) a)) (span addr len) }
+    requires { addr + len < 2 ^ 32 }
+    ensures inside { IfSome result (λ bad. bad < addr + len) }
+    ensures first { result ≡ find (λ a. is_bad_nibble (L.rules guard) check (nibble_of_byte (bytes_of cells.now) a)) (span addr len) }
 {
     for at in addr..addr + len {
         if is_bad(guard, check, nibble_at(cells, at)) {
@@ -89,8 +91,7 @@ pub fn first_bad<L: Lifeguard>(
 /// The mask of a register that a load fills.
 #[inline]
 pub fn loaded_mask<L: Lifeguard>(guard: L, width: LoadWidth, cells: &[u8], addr: u32) -> u8
-    requires inside { addr + load_bytes width ≤ length cells.now }
-    requires below { addr + load_bytes width < 2 ^ 32 }
+    requires { addr + load_bytes width < 2 ^ 32 }
     ensures { result ≡ mask_of_bytes (L.rules guard) width (bytes_of cells.now) addr }
 {
     let first = nibble_at(cells, addr);
@@ -171,54 +172,5 @@ pub fn replace(cells: &mut [u8], cell: u8, addr: u32, len: u32)
 {
     for at in addr as usize..(addr + len) as usize {
         cells[at] = cell;
-    }
-}
-
-/// Maps pages, each byte with the nibble that the kind of page gives it.
-pub fn map_pages<L: Lifeguard>(guard: L, kind: PageKind, cells: &mut [u8], page: u16, count: u16)
-    requires whole { 2 ^ 24 ≤ length cells.old }
-    requires inside { page + count ≤ 4096 }
-    ensures { bytes_of cells.new ≡ paged (Some ((L.rules guard).page_state kind)) page count (bytes_of cells.old) }
-{
-    replace(
-        cells,
-        guard.page_state(kind),
-        u32::from(page) * 4096,
-        u32::from(count) * 4096,
-    );
-}
-
-pub fn unmap_pages(cells: &mut [u8], page: u16, count: u16)
-    requires whole { 2 ^ 24 ≤ length cells.old }
-    requires inside { page + count ≤ 4096 }
-    ensures { bytes_of cells.new ≡ paged None page count (bytes_of cells.old) }
-{
-    replace(
-        cells,
-        UNMAPPED,
-        u32::from(page) * 4096,
-        u32::from(count) * 4096,
-    );
-}
-
-/// Maps runs of pages, one after the other.
-pub fn map_runs<L: Lifeguard>(guard: L, cells: &mut [u8], pages: &[PageRun])
-    requires whole { 2 ^ 24 ≤ length cells.old }
-    requires inside { All (λ run. run.first + run.count ≤ 4096) pages.now }
-    ensures { bytes_of cells.new ≡ fold (λ bytes run. paged (Some ((L.rules guard).page_state run.kind)) run.first run.count bytes) (bytes_of cells.old) pages.now }
-{
-    for run in pages {
-        map_pages(guard, run.kind, cells, run.first, run.count);
-    }
-}
-
-/// Cells of bytes of no mapped page.
-pub fn unmapped_cells(alloc: Global, size: usize) -> Result<Vec<u8>, NoMemory>
-    ensures size { IfOk result (λ cells. vec_len cells ≡ size) }
-    ensures unmapped { IfOk result (λ cells. bytes_of cells.items ≡ nothing) }
-{
-    match vec![in alloc; UNMAPPED; size] {
-        Ok(cells) => Ok(cells),
-        Err(_error) => Err(NoMemory),
     }
 }

@@ -3,12 +3,15 @@
 //! A byte of guest memory has a nibble: bit 0 says that it may be touched, bit 1 that it is defined, bit 2 that it
 //! came from outside. A register has a mask, a bit for each of its four bytes. A lifeguard is a record of small
 //! functions on nibbles and masks; the rule for an event is one function of that record, and every monitor, plain or
-//! parallel, gives what the fold of that rule gives. The plain monitor keeps one cell for each byte of memory.
+//! parallel, gives what the fold of that rule gives. The plain monitor keeps one cell for each byte of a page that
+//! was mapped, and none for the other pages.
 #![tactic(auto)]
 
 mod cells;
 mod guard;
 mod masks;
+mod page;
+mod pages;
 mod plain;
 mod report;
 mod rules;

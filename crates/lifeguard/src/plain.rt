@@ -1,7 +1,8 @@
-ghost use Rattle.std.specs.Prelude.{◌≡◌, ◌<◌, ◌≤◌, ◌+◌, ◌++◌, ◌∷◌, [], ◌^◌, List, All, IfOk, OnOk, OnErr, length};
+ghost use Rattle.std.specs.Prelude.{◌≡◌, ℕ, ◌<◌, ◌≤◌, ◌+◌, ◌*◌, ◌++◌, ◌∷◌, [], List, All, IfOk, OnOk, OnErr};
 ghost use Rattle.pl_event.specs.Valid.{IsValidEvent};
 ghost use Rattle.pl_event.specs.declared.event.Event.{Event};
 ghost use Rattle.pl_event.specs.declared.log.PageRun.{PageRun};
+ghost use Rattle.lifeguard.specs.Pages.{IsPage};
 ghost use Rattle.lifeguard.specs.Plain.{plain_result};
 ghost use Rattle.lifeguard.specs.Stands.{Stands, IsUnchanged, state_of, place_of, bytes_of};
 
@@ -77,13 +78,15 @@ impl<L: Lifeguard> PlainMonitor<L> {
         self.shadow.mask(hart, reg)
     }
 
-    /// A cell for each byte of memory: its nibble, or 8 or more for a byte of no mapped page.
+    /// The cells of a page, below 4,096, or none: its nibble for each byte, or 8 or more for a byte of no mapped page.
+    /// Where there are no cells no byte of the page is mapped.
     #[inline]
-    pub fn cells(&self) -> &[u8]
-        ensures bytes { bytes_of result.now ≡ (state_of self.now.shadow).bytes }
-        ensures whole { length result.now ≡ 2 ^ 24 }
+    pub fn page(&self, page: u16) -> &[u8]
+        requires { page < 4096 }
+        ensures bytes { (a : ℕ) → a < 4096 → bytes_of result.now a ≡ (state_of self.now.shadow).bytes (page * 4096 + a) }
+        ensures page { IsPage result.now }
     {
-        self.shadow.cells()
+        self.shadow.page(page)
     }
 
     /// The nibble of a byte; none exactly for a byte of no mapped page.

@@ -2,12 +2,18 @@
 ghost use Rattle.std.specs.Prelude.{◌≡◌, ◌<◌, ◌≤◌, ◌^◌, ◌++◌, [], length, take, OnOk, OnErr};
 ghost use Rattle.pl_event.specs.Valid.{HasValidFields};
 ghost use Rattle.lifeguard.specs.State.{State};
-ghost use Rattle.lifeguard.specs.Stands.{bytes_of, masks_of, state_from};
+ghost use Rattle.lifeguard.specs.Stands.{bytes_in, masks_of, state_from};
+ghost use Rattle.lifeguard.specs.Pages.{HasRoomFor};
 ghost use Rattle.lifeguard.specs.Plain.{reported, register_report as register_report_of, marked_register as marked_register_of, bad_touch as bad_touch_of, bad_sent as bad_sent_of, misdeed as misdeed_of, misdeed_report, misdeeds, reports_of, masks_after, bytes_after};
 
-use crate::cells::{Check, change_range, first_bad, loaded_mask, map_pages, store, unmap_pages};
+use crate::cells::Check;
 use crate::guard::{Lifeguard, Name, RangeKind};
 use crate::masks::{Masks, first_marked, mask_at, set_mask};
+use crate::page::Page;
+use crate::pages::{
+    change_range_in, first_bad_in, first_bad_on_page, loaded_mask_on_page, make_room, map_pages,
+    store_on_page, unmap_pages,
+};
 use crate::report::{Report, ReportKind, Stand};
 use pl_base::{FaultCause, NoMemory};
 use pl_event::{Kind, PageKind};
@@ -49,20 +55,20 @@ fn marked_register<L: Lifeguard>(guard: L, masks: &Masks, hart: u8, kind: &Kind)
 
 /// The first byte whose access is bad.
 #[inline]
-fn bad_touch<L: Lifeguard>(guard: L, cells: &[u8], kind: &Kind) -> Option<u32>
-    requires whole { 2 ^ 24 ≤ length cells.now }
+fn bad_touch<L: Lifeguard>(guard: L, pages: &[Page], kind: &Kind) -> Option<u32>
+    requires whole { length pages.now ≡ 4096 }
     requires valid { HasValidFields kind.now }
-    ensures { result ≡ bad_touch_of (L.rules guard) (bytes_of cells.now) kind.now }
+    ensures { result ≡ bad_touch_of (L.rules guard) (bytes_in pages.now) kind.now }
 {
     match *kind {
         Kind::Ld { width, addr, .. } => {
-            first_bad(guard, Check::Access, cells, addr, u32::from(width.bytes()))
+            first_bad_on_page(guard, Check::Access, pages, addr, u32::from(width.bytes()))
         }
         Kind::St { width, addr, .. } => {
-            first_bad(guard, Check::Access, cells, addr, u32::from(width.bytes()))
+            first_bad_on_page(guard, Check::Access, pages, addr, u32::from(width.bytes()))
         }
         Kind::Rd { addr, len } | Kind::Wr { addr, len } => {
-            first_bad(guard, Check::Access, cells, addr, len)
+            first_bad_in(guard, Check::Access, pages, addr, len)
         }
         Kind::Op { .. }
         | Kind::Mv { .. }
@@ -81,13 +87,13 @@ fn bad_touch<L: Lifeguard>(guard: L, cells: &[u8], kind: &Kind) -> Option<u32>
 
 /// The first byte that goes outside and may not.
 #[inline]
-fn bad_sent<L: Lifeguard>(guard: L, cells: &[u8], kind: &Kind) -> Option<u32>
-    requires whole { 2 ^ 24 ≤ length cells.now }
+fn bad_sent<L: Lifeguard>(guard: L, pages: &[Page], kind: &Kind) -> Option<u32>
+    requires whole { length pages.now ≡ 4096 }
     requires valid { HasValidFields kind.now }
-    ensures { result ≡ bad_sent_of (L.rules guard) (bytes_of cells.now) kind.now }
+    ensures { result ≡ bad_sent_of (L.rules guard) (bytes_in pages.now) kind.now }
 {
     match *kind {
-        Kind::Wr { addr, len } => first_bad(guard, Check::Value, cells, addr, len),
+        Kind::Wr { addr, len } => first_bad_in(guard, Check::Value, pages, addr, len),
         Kind::Ld { .. }
         | Kind::St { .. }
         | Kind::Op { .. }
@@ -182,23 +188,23 @@ fn push_misdeed<L: Lifeguard>(
 #[inline]
 fn push_reports<L: Lifeguard>(
     guard: L,
-    cells: &[u8],
+    pages: &[Page],
     masks: &Masks,
     reports: &mut Vec<Report>,
     at: Stand,
     kind: &Kind,
 ) -> Result<(), NoMemory>
     requires hart { at.hart < 8 }
-    requires whole { 2 ^ 24 ≤ length cells.now }
+    requires whole { length pages.now ≡ 4096 }
     requires valid { HasValidFields kind.now }
-    ensures ok { OnOk result (reports.new.items ≡ reports.old.items ++ reports_of (L.rules guard) at kind.now (state_from cells.now masks.now [])) }
+    ensures ok { OnOk result (reports.new.items ≡ reports.old.items ++ reports_of (L.rules guard) at kind.now (state_from pages.now masks.now [])) }
     ensures err { OnErr result (take (length reports.old.items) reports.new.items ≡ reports.old.items) }
 {
     let register = marked_register(guard, masks, at.hart, kind);
     push_found(reports, at, register_report(kind), register)?;
-    let touched = bad_touch(guard, cells, kind);
+    let touched = bad_touch(guard, pages, kind);
     push_found(reports, at, ReportKind::Access, touched)?;
-    let sent = bad_sent(guard, cells, kind);
+    let sent = bad_sent(guard, pages, kind);
     push_found(reports, at, ReportKind::Undef, sent)?;
     push_misdeed(guard, reports, at, kind)
 }
@@ -207,20 +213,20 @@ fn push_reports<L: Lifeguard>(
 #[inline]
 pub fn report_event<L: Lifeguard>(
     guard: L,
-    cells: &[u8],
+    pages: &[Page],
     masks: &Masks,
     reports: &mut Vec<Report>,
     at: Stand,
     kind: &Kind,
 ) -> Result<(), NoMemory>
     requires hart { at.hart < 8 }
-    requires whole { 2 ^ 24 ≤ length cells.now }
+    requires whole { length pages.now ≡ 4096 }
     requires valid { HasValidFields kind.now }
-    ensures ok { OnOk result (reports.new.items ≡ reports.old.items ++ reports_of (L.rules guard) at kind.now (state_from cells.now masks.now [])) }
+    ensures ok { OnOk result (reports.new.items ≡ reports.old.items ++ reports_of (L.rules guard) at kind.now (state_from pages.now masks.now [])) }
     ensures err { OnErr result (reports.new.items ≡ reports.old.items) }
 {
     let before = reports.len();
-    match push_reports(guard, cells, masks, reports, at, kind) {
+    match push_reports(guard, pages, masks, reports, at, kind) {
         Ok(()) => Ok(()),
         Err(error) => {
             reports.truncate(before);
@@ -229,13 +235,47 @@ pub fn report_event<L: Lifeguard>(
     }
 }
 
+/// Makes cells for the pages that an event maps. What the pages stand for stays, also where no memory is left.
+#[inline]
+pub fn make_room_for(pages: &mut [Page], kind: &Kind) -> Result<(), NoMemory>
+    requires whole { length pages.old ≡ 4096 }
+    requires valid { HasValidFields kind.now }
+    ensures room { OnOk result (HasRoomFor kind.now pages.new) }
+    ensures same { bytes_in pages.new ≡ bytes_in pages.old }
+{
+    match *kind {
+        Kind::Mp { page, count } => make_room(pages, page, count),
+        Kind::Ld { .. }
+        | Kind::St { .. }
+        | Kind::Op { .. }
+        | Kind::Mv { .. }
+        | Kind::Im { .. }
+        | Kind::Br { .. }
+        | Kind::Jr { .. }
+        | Kind::Al { .. }
+        | Kind::Fr { .. }
+        | Kind::Bf { .. }
+        | Kind::Um { .. }
+        | Kind::Rd { .. }
+        | Kind::Wr { .. }
+        | Kind::Ex
+        | Kind::Ft { .. } => Ok(()),
+    }
+}
+
 /// What an event makes of the masks. Register 10 has a kernel call's answer.
 #[inline]
-pub fn change_masks<L: Lifeguard>(guard: L, cells: &[u8], masks: &mut Masks, hart: u8, kind: &Kind)
+pub fn change_masks<L: Lifeguard>(
+    guard: L,
+    pages: &[Page],
+    masks: &mut Masks,
+    hart: u8,
+    kind: &Kind,
+)
     requires hart { hart < 8 }
-    requires whole { 2 ^ 24 ≤ length cells.now }
+    requires whole { length pages.now ≡ 4096 }
     requires valid { HasValidFields kind.now }
-    ensures { masks_of masks.new ≡ masks_after (L.rules guard) hart kind.now (bytes_of cells.now) (masks_of masks.old) }
+    ensures { masks_of masks.new ≡ masks_after (L.rules guard) hart kind.now (bytes_in pages.now) (masks_of masks.old) }
 {
     match *kind {
         Kind::Ld {
@@ -244,7 +284,7 @@ pub fn change_masks<L: Lifeguard>(guard: L, cells: &[u8], masks: &mut Masks, har
             addr,
             ..
         } => {
-            let mask = loaded_mask(guard, width, cells, addr);
+            let mask = loaded_mask_on_page(guard, width, pages, addr);
             set_mask(masks, hart, rd, mask);
         }
         Kind::Op { rd, r1, r2 } => {
@@ -269,11 +309,18 @@ pub fn change_masks<L: Lifeguard>(guard: L, cells: &[u8], masks: &mut Masks, har
 
 /// What an event makes of the bytes.
 #[inline]
-pub fn change_bytes<L: Lifeguard>(guard: L, masks: &Masks, cells: &mut [u8], hart: u8, kind: &Kind)
+pub fn change_bytes<L: Lifeguard>(
+    guard: L,
+    masks: &Masks,
+    pages: &mut [Page],
+    hart: u8,
+    kind: &Kind,
+)
     requires hart { hart < 8 }
-    requires whole { 2 ^ 24 ≤ length cells.old }
+    requires whole { length pages.old ≡ 4096 }
     requires valid { HasValidFields kind.now }
-    ensures { bytes_of cells.new ≡ bytes_after (L.rules guard) hart kind.now (bytes_of cells.old) (masks_of masks.now) }
+    requires room { HasRoomFor kind.now pages.old }
+    ensures { bytes_in pages.new ≡ bytes_after (L.rules guard) hart kind.now (bytes_in pages.old) (masks_of masks.now) }
 {
     match *kind {
         Kind::St {
@@ -282,13 +329,13 @@ pub fn change_bytes<L: Lifeguard>(guard: L, masks: &Masks, cells: &mut [u8], har
             addr,
             ..
         } => {
-            store(guard, mask_at(masks, hart, rv), cells, addr, width.bytes());
+            store_on_page(guard, mask_at(masks, hart, rv), pages, addr, width.bytes());
         }
-        Kind::Al { addr, len } => change_range(guard, RangeKind::Al, cells, addr, len),
-        Kind::Fr { addr, len } => change_range(guard, RangeKind::Fr, cells, addr, len),
-        Kind::Mp { page, count } => map_pages(guard, PageKind::Data, cells, page, count),
-        Kind::Um { page, count } => unmap_pages(cells, page, count),
-        Kind::Rd { addr, len } => change_range(guard, RangeKind::Rd, cells, addr, len),
+        Kind::Al { addr, len } => change_range_in(guard, RangeKind::Al, pages, addr, len),
+        Kind::Fr { addr, len } => change_range_in(guard, RangeKind::Fr, pages, addr, len),
+        Kind::Mp { page, count } => map_pages(guard, PageKind::Data, pages, page, count),
+        Kind::Um { page, count } => unmap_pages(pages, page, count),
+        Kind::Rd { addr, len } => change_range_in(guard, RangeKind::Rd, pages, addr, len),
         Kind::Ld { .. }
         | Kind::Op { .. }
         | Kind::Mv { .. }

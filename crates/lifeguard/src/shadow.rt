@@ -1,45 +1,47 @@
-ghost use Rattle.std.specs.Prelude.{◌≡◌, ◌<◌, ◌≤◌, ◌+◌, ◌^◌, ℕ, [], All, OnOk, OnErr, IfOk, vec_len, slice_index, length};
+ghost use Rattle.std.specs.Prelude.{◌≡◌, ◌<◌, ◌≤◌, ◌+◌, ◌*◌, ℕ, [], All, OnOk, OnErr, IfOk, vec_len, slice_index};
 
-use crate::cells::{byte_at, map_runs, unmapped_cells};
 use crate::guard::Lifeguard;
 use crate::masks::{Masks, clear_masks, mask_at};
+use crate::page::Page;
+use crate::pages::{byte_in, map_runs, unmapped_pages};
 use crate::report::{Report, Stand};
-use crate::rules::{change_bytes, change_masks, report_event};
+use crate::rules::{change_bytes, change_masks, make_room_for, report_event};
 use pl_base::NoMemory;
 use pl_event::{Event, PageRun};
 use std::alloc::Global;
 
-/// The bytes of memory.
-const SIZE: usize = 16_777_216;
+/// The pages of memory.
+const PAGES: usize = 4096;
 
 /// The shadow state of a run: the nibble of each mapped byte, the mask of each register, and the reports.
 #[derive(Drop)]
 pub struct Shadow {
-    /// A nibble for each byte of memory, or 8 for a byte of no mapped page.
-    cells: Vec<u8>,
+    /// The cells of each page of memory.
+    pages: Vec<Page>,
     masks: Masks,
     reports: Vec<Report>,
     /// How many events were applied, and of each hart.
     place: u32,
     counts: [u32; 8],
-    ghost whole: { vec_len cells ≡ 2 ^ 24 },
+    ghost whole: { vec_len pages ≡ 4096 },
     ghost counted: { (h : ℕ) → slice_index counts h ≤ place },
 }
 
 impl Shadow {
     ghost use Rattle.pl_event.specs.Valid.{HasValidFields};
+    ghost use Rattle.lifeguard.specs.Pages.{IsPage};
     ghost use Rattle.lifeguard.specs.State.{first_state};
     ghost use Rattle.lifeguard.specs.Stands.{state_of, place_of, bytes_of, masks_of, IsStep, IsUnchanged, Begins};
 
     /// The state before the first event, with these pages mapped.
-    pub fn new<L: Lifeguard>(alloc: Global, guard: L, pages: &[PageRun]) -> Result<Shadow, NoMemory>
-        requires inside { All (λ run. run.first + run.count ≤ 4096) pages.now }
-        ensures { IfOk result (Begins (L.rules guard) pages.now) }
+    pub fn new<L: Lifeguard>(alloc: Global, guard: L, runs: &[PageRun]) -> Result<Shadow, NoMemory>
+        requires inside { All (λ run. run.first + run.count ≤ 4096) runs.now }
+        ensures { IfOk result (Begins (L.rules guard) runs.now) }
     {
-        let mut cells = unmapped_cells(alloc, SIZE)?;
-        map_runs(guard, &mut cells, pages);
+        let mut pages = unmapped_pages(alloc, PAGES)?;
+        map_runs(guard, &mut pages, runs)?;
         Ok(Shadow {
-            cells,
+            pages,
             masks: clear_masks(),
             reports: Vec::new(alloc),
             place: 0,
@@ -63,9 +65,10 @@ impl Shadow {
             hart,
             number: self.counts[hart as usize] + 1,
         };
-        report_event(guard, &self.cells, &self.masks, &mut self.reports, at, kind)?;
-        change_masks(guard, &self.cells, &mut self.masks, hart, kind);
-        change_bytes(guard, &self.masks, &mut self.cells, hart, kind);
+        make_room_for(&mut self.pages, kind)?;
+        report_event(guard, &self.pages, &self.masks, &mut self.reports, at, kind)?;
+        change_masks(guard, &self.pages, &mut self.masks, hart, kind);
+        change_bytes(guard, &self.masks, &mut self.pages, hart, kind);
         self.place = at.place;
         self.counts[hart as usize] = at.number;
         Ok(())
@@ -88,13 +91,15 @@ impl Shadow {
         mask_at(&self.masks, hart, reg)
     }
 
-    /// A cell for each byte of memory: its nibble, or 8 or more for a byte of no mapped page.
+    /// The cells of a page, below 4,096, or none: its nibble for each byte, or 8 or more for a byte of no mapped page.
+    /// Where there are no cells no byte of the page is mapped.
     #[inline]
-    pub fn cells(&self) -> &[u8]
-        ensures bytes { bytes_of result.now ≡ (state_of self.now).bytes }
-        ensures whole { length result.now ≡ 2 ^ 24 }
+    pub fn page(&self, page: u16) -> &[u8]
+        requires { page < 4096 }
+        ensures bytes { (a : ℕ) → a < 4096 → bytes_of result.now a ≡ (state_of self.now).bytes (page * 4096 + a) }
+        ensures page { IsPage result.now }
     {
-        self.cells.as_slice()
+        self.pages[page as usize].cells()
     }
 
     /// The nibble of a byte; none exactly for a byte of no mapped page.
@@ -102,6 +107,6 @@ impl Shadow {
     pub fn byte(&self, addr: u32) -> Option<u8>
         ensures { result ≡ (state_of self.now).bytes addr }
     {
-        byte_at(&self.cells, addr)
+        byte_in(&self.pages, addr)
     }
 }

@@ -1,9 +1,10 @@
 ghost use Rattle.std.specs.Prelude.{◌≡◌, ℕ, true, ◌<◌, ◌≤◌, ◌+◌, ◌^◌, ◌++◌, length, slice_index, IfOk, OnOk};
 ghost use Rattle.lifeguard.specs.State.{Bytes, nibble_at};
+ghost use Rattle.lifeguard.specs.Pages.{IsPage};
 ghost use Rattle.lifeguard.specs.Stands.{state_of, bytes_of};
 ghost use Rattle.report_text.specs.Runs.{runs_from, runs_of, AreLongestRuns, ended_run};
 
-use lifeguard::{Lifeguard, PlainMonitor};
+use lifeguard::{Lifeguard, PlainMonitor, Shadow};
 use pl_base::NoMemory;
 use std::alloc::Global;
 
@@ -44,30 +45,62 @@ trait Nibbles {
 /// How many cells are compared in one go.
 const BLOCK: u32 = 64;
 
-/// The cells of a plain monitor, a byte each.
+/// How many bytes a page has.
+const PAGE_BYTES: u32 = 4096;
+
+/// The cells of a plain monitor's shadow state, page by page.
 #[derive(Clone, Copy)]
-struct Cells<'a> {
-    cells: &'a [u8],
+struct Pages<'a> {
+    shadow: &'a Shadow,
 }
 
-impl<'a> Nibbles for Cells<'a> {
-    ghost bytes = { λ nibbles. bytes_of nibbles.cells.now };
+impl<'a> Nibbles for Pages<'a> {
+    ghost bytes = { λ nibbles. (state_of nibbles.shadow.now).bytes };
 
-    ghost count = { λ nibbles. length nibbles.cells.now };
+    ghost count = { λ nibbles. 2 ^ 24 };
 
     #[inline]
     fn nibble(&self, addr: u32) -> u8 {
-        let cell = self.cells[addr as usize];
-        if cell < 8 { cell } else { 0 }
+        let page = self.shadow.page((addr / PAGE_BYTES) as u16);
+        cell_nibble(page, (addr % PAGE_BYTES) as usize)
     }
 
     #[inline]
     fn alike_end(&self, addr: u32, size: u32) -> u32 {
-        if addr % BLOCK == 0 && size - addr >= BLOCK && is_block_alike(self.cells, addr as usize) {
-            addr + BLOCK
-        } else {
-            addr + 1
-        }
+        let page = self.shadow.page((addr / PAGE_BYTES) as u16);
+        let place = addr % PAGE_BYTES;
+        size.min(addr + cells_alike(page, place))
+    }
+}
+
+/// The nibble of a cell of a page; 0 for a byte of no mapped page.
+#[inline]
+fn cell_nibble(cells: &[u8], at: usize) -> u8
+    ensures { result ≡ nibble_at (bytes_of cells.now) at }
+{
+    if at < cells.len() && cells[at] < 8 {
+        cells[at]
+    } else {
+        0
+    }
+}
+
+/// How many bytes of a page, from `place` on, are seen at one look to have the same nibble: all that are left of a page
+/// without cells, a block, or one.
+#[inline]
+fn cells_alike(cells: &[u8], place: u32) -> u32
+    requires inside { place < 4096 }
+    requires page { IsPage cells.now }
+    ensures some { 0 < result }
+    ensures inside { place + result ≤ 4096 }
+    ensures alike { (a : ℕ) → place ≤ a → a < place + result → nibble_at (bytes_of cells.now) a ≡ nibble_at (bytes_of cells.now) place }
+{
+    if cells.is_empty() {
+        PAGE_BYTES - place
+    } else if place % BLOCK == 0 && is_block_alike(cells, place as usize) {
+        BLOCK
+    } else {
+        1
     }
 }
 
@@ -137,5 +170,5 @@ pub fn runs_of_plain<L: Lifeguard>(
     ensures runs { IfOk result (λ runs. runs.items ≡ runs_of (state_of m.now.shadow).bytes) }
     ensures longest { IfOk result (λ runs. AreLongestRuns (state_of m.now.shadow).bytes 0 (2 ^ 24) runs.items) }
 {
-    runs_below(alloc, Cells { cells: m.cells() }, MEMORY_BYTES)
+    runs_below(alloc, Pages { shadow: &m.shadow }, MEMORY_BYTES)
 }

@@ -1,8 +1,0 @@
-use Rattle.std.proofs.Common.{◌≡◌, take}
-use Rattle.std.specs.Prelude.{fold, Some}
-use Rattle.lifeguard.specs.State.{paged}
-use Rattle.lifeguard.specs.Stands.{bytes_of}
-use Rattle.lifeguard.proofs.cells.map_runs.Given as goal
-
-abbrev pub invariant-loop-run : goal.invariant-loop-run
-invariant-loop-run g l = bytes_of l.cells ≡ fold (λ bytes run. paged (Some ((g.L.Lifeguard.rules l.guard).page_state run.kind)) run.first run.count bytes) (bytes_of l.fn.cells) (take l.run-index l.pages)

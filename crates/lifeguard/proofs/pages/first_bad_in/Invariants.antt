@@ -1,0 +1,11 @@
+use Rattle.std.proofs.Common.{◌≡◌, ◌+◌, ◌-◌}
+use Rattle.std.specs.Prelude.{find}
+use Rattle.lifeguard.specs.Checks.{is_bad}
+use Rattle.lifeguard.specs.State.{nibble_at, span}
+use Rattle.lifeguard.specs.Stands.{bytes_in}
+use Rattle.lifeguard.proofs.pages.first_bad_in.Given as goal
+
+abbrev pub invariant-loop-at : goal.invariant-loop-at
+invariant-loop-at g l =
+    find (λ a. is_bad (g.L.Lifeguard.rules l.guard) l.check (nibble_at (bytes_in l.pages) a)) (span l.at (l.addr + l.len - l.at))
+    ≡ find (λ a. is_bad (g.L.Lifeguard.rules l.guard) l.check (nibble_at (bytes_in l.pages) a)) (span l.addr l.len)

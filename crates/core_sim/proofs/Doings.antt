@@ -32,8 +32,7 @@ use Rattle.rv_exec.specs.declared.effect.Effect.{Effect}
 use Rattle.rv_exec.specs.declared.effect.Effect.TheVariants as effects
 use Rattle.rv_exec.specs.Hart.{Hart, x}
 use Rattle.rv_exec.specs.Meaning.{effect_at, effect_of, loaded, at_pc, next_pc, IsLoad}
-use Rattle.core_sim.specs.declared.step.Did.{Did}
-use Rattle.core_sim.specs.Doing.{did_go_on, did_fault, Does, DoesEffect, IsStore}
+use Rattle.core_sim.specs.Doing.{Did, did_go_on, did_fault, Does, DoesEffect, IsStore}
 use Rattle.core_sim.specs.Events.{kind_of, is_copy, cancels}
 use Rattle.core_sim.specs.Steps.{Act, goes_on, faulted, word_at, CanLoad, CanStore, LoadFaults, StoreFaults, IsDone, IsFetched, stores, call_args, called, moved_in, moved_out, left_by, state_left}
 use Rattle.core_sim.proofs.Ties.{same_state}

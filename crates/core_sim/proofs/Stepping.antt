@@ -6,9 +6,8 @@ use Rattle.rv_exec.specs.Hart.{Hart}
 use Rattle.core_sim.specs.declared.hart.Standing.{Standing}
 use Rattle.core_sim.specs.declared.job.Item.{Item}
 use Rattle.core_sim.specs.declared.job.Job.{Job}
-use Rattle.core_sim.specs.declared.step.Did.{Did}
 use Rattle.core_sim.specs.declared.turn.Turn.{Turn}
-use Rattle.core_sim.specs.Doing.{Does}
+use Rattle.core_sim.specs.Doing.{Did, Does}
 use Rattle.core_sim.specs.Entries.{Entry, state_after, harts_after, turn_after}
 use Rattle.core_sim.specs.Harts.{live_harts}
 use Rattle.core_sim.specs.Image.{MachineImage}

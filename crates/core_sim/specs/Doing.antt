@@ -1,5 +1,5 @@
 -- What the parts of a step come to.
-use Rattle.std.specs.Prelude.{◌≡◌, ℕ, List}
+use Rattle.std.specs.Prelude.{◌≡◌, ℕ, ◌<◌, List, length, Some, slice_index}
 use Rattle.pl_base.specs.declared.widths.FaultCause.{FaultCause}
 use Rattle.pl_event.specs.declared.event.Kind.{Kind}
 use Rattle.pl_event.specs.declared.event.Kind.TheVariants.{Ft}
@@ -9,8 +9,21 @@ use Rattle.rv_isa.specs.declared.instruction.Instr.TheVariants as instrs
 use Rattle.rv_exec.specs.declared.effect.Effect.{Effect}
 use Rattle.rv_exec.specs.Hart.{Hart}
 use Rattle.core_sim.specs.declared.hart.HartEnd.TheVariants.{Live, Fault}
-use Rattle.core_sim.specs.declared.step.Did.{Did}
-use Rattle.core_sim.specs.Steps.{Act, IsDone, IsStep, state_left}
+use Rattle.core_sim.specs.declared.hart.Standing.{Standing}
+use Rattle.core_sim.specs.Steps.{Act, word_at, IsDone, IsStep, state_left}
+
+-- what a step came to: the kind of its event, and the hart after it
+pub record Did : Type 0 where
+  pub kind : Kind
+  pub next : Standing
+
+abbrev pub did : Kind → Standing → Did
+did kind next = record { kind = kind; next = next }
+
+-- the number of the word that an address names
+pub record IsPlace (words : List ℕ) (pc place : ℕ) : Type 0 where
+  pub within : place < length words
+  pub is : word_at words pc ≡ Some (slice_index words place)
 
 -- the hart goes on, or has ended by a fault
 abbrev pub did_go_on : Kind → Hart → Did

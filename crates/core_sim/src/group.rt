@@ -1,38 +1,35 @@
 use pl_event::Event;
 use std::marker::Model;
 
-/// How many events a step gives at most.
-const MOST: usize = 4;
+/// How many events each step has that a machine takes now.
+const HELD: usize = 1;
 
-/// The events of one step, one to four, in order.
+/// The events of one step, one to four, in order. Room is kept for those that a step has now.
 #[derive(Drop)]
 pub struct EventGroup {
-    events: [Event; MOST],
-    len: u8,
+    events: [Event; HELD],
 }
 
 impl Model for EventGroup {
-    ghost use Rattle.std.specs.Prelude.{◌≡◌, List, ◌≤◌, length, take};
+    ghost use Rattle.std.specs.Prelude.{◌≡◌, List, length};
     ghost use Rattle.pl_event.specs.declared.event.Event.{Event};
 
     ghost Value = { List Event };
 
-    ghost view = { λ group. take group.len group.events };
+    ghost view = { λ group. group.events };
 
-    ghost invariant = { λ group. (1 ≤ group.len) × (group.len ≤ 4) × (length group.events ≡ 4) };
+    ghost invariant = { λ group. length group.events ≡ 1 };
 }
 
 impl EventGroup {
     ghost use Rattle.std.specs.Prelude.{◌≡◌, ◌∷◌, [], ◌≤◌, ◌<◌, length, slice_get, Some};
 
     /// One event.
+    #[inline]
     pub(crate) fn one(event: Event) -> EventGroup
         ensures { result ≡ event ∷ [] }
     {
-        EventGroup {
-            events: [event; MOST],
-            len: 1,
-        }
+        EventGroup { events: [event] }
     }
 
     /// How many events there are: 1 to 4.
@@ -42,7 +39,7 @@ impl EventGroup {
         ensures some { 1 ≤ result }
         ensures few { result ≤ 4 }
     {
-        self.len
+        self.events.as_slice().len() as u8
     }
 
     /// The event at a place, from 0.

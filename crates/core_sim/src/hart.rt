@@ -15,6 +15,7 @@ impl HartEnd {
     ghost use Rattle.std.specs.Prelude.{◌≡◌};
     ghost use Rattle.core_sim.specs.Harts.{is_live};
 
+    #[inline]
     pub(crate) fn is_live(self) -> bool
         ensures { result ≡ is_live self }
     {

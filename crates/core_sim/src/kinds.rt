@@ -5,6 +5,7 @@ use pl_event::Kind;
 use rv_isa::{ImmOp, Instr, RegOp};
 
 /// The kind of the event of an instruction that needs neither memory nor the kernel.
+#[inline]
 pub fn kind_of(instr: &Instr) -> Kind
     ensures { result ≡ kind_of instr.now }
 {

@@ -3,8 +3,9 @@
 //! A job is plain data. What makes it a valid one is said once, in the definition of a valid job, and whatever is
 //! made of a job asks for that.
 //!
-//! A machine keeps the text as a slice of words, the kernel, the harts side by side and the turn that goes on. A step
-//! fetches one word by its pc and does it whole; a load or a store is one look-up of memory. Contracts say which
+//! A machine keeps the text, of which each word was read once, the kernel, the harts side by side and the turn that
+//! goes on. A step fetches one instruction by its pc and does it whole, to the hart where it stands; a load or a store
+//! is one look-up of memory. Contracts say which
 //! front of the job's one run a machine stands for: a run is a list of entries, in which memory, blocks, harts and
 //! turns are looked up.
 #![tactic(auto)]
@@ -21,6 +22,7 @@ mod start;
 mod step;
 #[cfg(test)]
 mod tests;
+mod text;
 mod turn;
 
 pub use group::{EventGroup, StepOut};

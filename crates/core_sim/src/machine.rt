@@ -8,9 +8,10 @@ ghost use Rattle.core_sim.specs.Valid.{IsValidJob};
 
 use crate::group::{EventGroup, StepOut};
 use crate::hart::{HartEnd, Standing};
-use crate::job::{Items, Job, Schedule, Words};
+use crate::job::{Items, Job, Schedule};
 use crate::start::start_memory;
 use crate::step::execute;
+use crate::text::Text;
 use crate::turn::Turn;
 use guest_kernel::Kernel;
 use pl_base::NoMemory;
@@ -22,7 +23,7 @@ use std::marker::Model;
 /// A job that is run step by step.
 #[derive(Drop)]
 pub struct Machine {
-    words: Words,
+    text: Text,
     kernel: Kernel,
     harts: Vec<Standing>,
     items: Items,
@@ -37,7 +38,7 @@ impl Model for Machine {
 
     ghost Value = { MachineImage };
 
-    ghost view = { λ m. record { words = m.words; kernel = m.kernel; harts = m.harts.items; items = m.items; turn = m.turn; limit = m.limit; steps = m.steps } };
+    ghost view = { λ m. record { words = m.text; kernel = m.kernel; harts = m.harts.items; items = m.items; turn = m.turn; limit = m.limit; steps = m.steps } };
 
     ghost invariant = { λ m. length m.harts.items ≤ 8 };
 }
@@ -56,7 +57,7 @@ impl Machine {
         let input = job.input.as_slice().to_vec(alloc)?;
         let harts = usize::from(job.harts);
         Ok(Machine {
-            words: Words::from_vec(job.words.as_slice().to_vec(alloc)?),
+            text: Text::read(alloc, job.words.as_slice())?,
             kernel: Kernel::new(alloc, mem, input)?,
             harts: start_harts(alloc, &job.entries[..harts])?,
             items: start_items(alloc, &job.schedule)?,
@@ -83,14 +84,12 @@ impl Machine {
             return Ok(StepOut::Limit);
         }
         let hart = usize::from(turn.hart);
-        let state = self.harts[hart].state;
-        let did = execute(self.words.as_slice(), &mut self.kernel, &state)?;
-        self.harts[hart] = did.next;
+        let kind = execute(&self.text, &mut self.kernel, &mut self.harts[hart])?;
         self.turn = turn.stepped();
         self.steps += 1;
         Ok(StepOut::Did(EventGroup::one(Event {
             hart: turn.hart,
-            kind: did.kind,
+            kind,
         })))
     }
 

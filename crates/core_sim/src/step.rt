@@ -1,87 +1,75 @@
-ghost use Rattle.std.specs.Prelude.{◌≡◌, ◌<◌, ◌^◌, [], IfOk, OnErr, IfSome, IfNone, Some, None};
+ghost use Rattle.std.specs.Prelude.{◌≡◌, ◌==◌, ◌%◌, IfOk, OnErr};
+ghost use Rattle.pl_base.specs.Widths.{load_bytes, store_bytes};
 ghost use Rattle.rv_isa.specs.Valid.{IsValid};
+ghost use Rattle.rv_exec.specs.declared.effect.Effect.{Effect};
 ghost use Rattle.rv_exec.specs.Meaning.{IsLoad};
 ghost use Rattle.guest_kernel.specs.State.{state_of};
-ghost use Rattle.core_sim.specs.Steps.{word_at};
-ghost use Rattle.core_sim.specs.Doing.{did_go_on, did_fault, Does, DoesEffect, IsStore};
+ghost use Rattle.core_sim.specs.Doing.{did, did_go_on, did_fault, Does, DoesEffect, IsStore};
 
 use crate::hart::{HartEnd, Standing};
 use crate::kinds::kind_of;
+use crate::text::Text;
 use guest_kernel::{CallArgs, Kernel, KernelStep};
 use guest_mem::MemFault;
-use pl_base::{FaultCause, NoMemory};
+use pl_base::{FaultCause, LoadWidth, NoMemory, StoreWidth};
 use pl_event::Kind;
-use rv_exec::{Effect, HartState, begin, finish_call, finish_load, finish_store};
+use rv_exec::{HartState, Wanted, advance, end_call, end_load, end_store};
 use rv_isa::Instr;
 
-/// The address of the first word of text.
-const TEXT: u32 = 0x1_0000;
-
-/// What a step came to: the kind of its event, and the hart after it.
-#[derive(Clone, Copy, Debug, PartialEq, Eq)]
-pub struct Did {
-    pub kind: Kind,
-    pub next: Standing,
-}
-
-/// Takes one step of a hart. After want of memory the kernel is as before.
-pub fn execute(words: &[u32], kernel: &mut Kernel, state: &HartState) -> Result<Did, NoMemory>
-    ensures did { IfOk result (Does words.now (state_of kernel.old) (state_of kernel.new) state.now) }
-    ensures unchanged { OnErr result (kernel.new ≡ kernel.old) }
+/// Takes one step of a hart, and gives the kind of its event. After want of memory the kernel and the hart are as
+/// before.
+#[inline]
+pub fn execute(text: &Text, kernel: &mut Kernel, hart: &mut Standing) -> Result<Kind, NoMemory>
+    ensures did { IfOk result (λ kind. Does text.now (state_of kernel.old) (state_of kernel.new) hart.old.state (did kind hart.new)) }
+    ensures kernel { OnErr result (kernel.new ≡ kernel.old) }
+    ensures hart { OnErr result (hart.new ≡ hart.old) }
 {
-    let Some(word) = word_at(words, state.pc) else {
-        return Ok(fault(state, FaultCause::Pc, state.pc));
+    let pc = pc_of(&hart.state);
+    let Some(place) = text.place(pc) else {
+        return Ok(fault(hart, FaultCause::Pc, pc));
     };
-    match begin(state, word) {
-        Effect::Plain { instr, next } => Ok(goes_on(kind_of(&instr), &next)),
-        Effect::Load { instr, addr } => Ok(load(kernel, state, &instr, addr)),
-        Effect::Store { instr, addr, value } => Ok(store(kernel, state, &instr, addr, value)),
-        Effect::Call => call(kernel, state),
-        Effect::Illegal => Ok(fault(state, FaultCause::Illegal, state.pc)),
+    let Some(instr) = text.instruction(place) else {
+        return Ok(fault(hart, FaultCause::Illegal, pc));
+    };
+    match advance(&mut hart.state, instr) {
+        Wanted::Nothing => Ok(goes_on(hart, kind_of(instr))),
+        Wanted::Bytes { addr } => Ok(load(kernel, hart, instr, addr)),
+        Wanted::Room { addr, value } => Ok(store(kernel, hart, instr, addr, value)),
+        Wanted::Kernel => call(kernel, hart),
     }
 }
 
-/// The word of text that an address names.
-fn word_at(words: &[u32], pc: u32) -> Option<u32>
-    ensures { result ≡ word_at words.now pc }
+/// The address of a hart's next instruction.
+#[inline]
+fn pc_of(state: &HartState) -> u32
+    ensures { result ≡ state.now.pc }
 {
-    if pc % 4 != 0 || pc < TEXT {
-        return None;
-    }
-    words.get(((pc - TEXT) / 4) as usize).copied()
+    state.pc
 }
 
 /// The hart goes on.
-fn goes_on(kind: Kind, next: &HartState) -> Did
-    ensures { result ≡ did_go_on kind next.now }
+#[inline]
+fn goes_on(hart: &mut Standing, kind: Kind) -> Kind
+    ensures { did result hart.new ≡ did_go_on kind hart.old.state }
 {
-    Did {
-        kind,
-        next: Standing {
-            state: *next,
-            end: HartEnd::Live,
-        },
-    }
+    hart.end = HartEnd::Live;
+    kind
 }
 
 /// The hart has ended by a fault.
-fn fault(state: &HartState, cause: FaultCause, addr: u32) -> Did
-    ensures { result ≡ did_fault state.now cause addr }
+fn fault(hart: &mut Standing, cause: FaultCause, addr: u32) -> Kind
+    ensures { did result hart.new ≡ did_fault hart.old.state cause addr }
 {
-    Did {
-        kind: Kind::Ft { cause, addr },
-        next: Standing {
-            state: *state,
-            end: HartEnd::Fault { cause, addr },
-        },
-    }
+    hart.end = HartEnd::Fault { cause, addr };
+    Kind::Ft { cause, addr }
 }
 
 /// Does a load from an address.
-fn load(kernel: &Kernel, state: &HartState, instr: &Instr, addr: u32) -> Did
+#[inline]
+fn load(kernel: &Kernel, hart: &mut Standing, instr: &Instr, addr: u32) -> Kind
     requires valid { IsValid instr.now }
     requires load { IsLoad instr.now }
-    ensures { DoesEffect (state_of kernel.now) (state_of kernel.now) state.now (Effect.Load instr.now addr) result }
+    ensures { DoesEffect (state_of kernel.now) (state_of kernel.now) hart.old.state (Effect.Load instr.now addr) (did result hart.new) }
 {
     let Instr::Load {
         width,
@@ -92,28 +80,41 @@ fn load(kernel: &Kernel, state: &HartState, instr: &Instr, addr: u32) -> Did
     else {
         unreachable!()
     };
-    let bytes = width.bytes();
-    if addr % u32::from(bytes) != 0 {
-        return fault(state, FaultCause::Align, addr);
+    if !is_load_aligned(width, addr) {
+        return fault(hart, FaultCause::Align, addr);
     }
-    match kernel.mem().read(addr, bytes) {
+    match kernel.mem().read(addr, width.bytes()) {
         Ok(raw) => {
+            end_load(&mut hart.state, instr, raw);
             let kind = Kind::Ld {
                 width,
                 rd,
                 rb: rs1,
                 addr,
             };
-            goes_on(kind, &finish_load(state, instr, raw))
+            goes_on(hart, kind)
         }
-        Err(_) => fault(state, FaultCause::Unmapped, addr),
+        Err(_) => fault(hart, FaultCause::Unmapped, addr),
+    }
+}
+
+/// Whether an address is a multiple of a load's width.
+#[inline]
+fn is_load_aligned(width: LoadWidth, addr: u32) -> bool
+    ensures { result ≡ (addr % load_bytes width == 0) }
+{
+    match width {
+        LoadWidth::B | LoadWidth::Bu => true,
+        LoadWidth::H | LoadWidth::Hu => addr % 2 == 0,
+        LoadWidth::W => addr % 4 == 0,
     }
 }
 
 /// Does a store of a register's value to an address.
-fn store(kernel: &mut Kernel, state: &HartState, instr: &Instr, addr: u32, value: u32) -> Did
+#[inline]
+fn store(kernel: &mut Kernel, hart: &mut Standing, instr: &Instr, addr: u32, value: u32) -> Kind
     requires { IsStore instr.now }
-    ensures { DoesEffect (state_of kernel.old) (state_of kernel.new) state.now (Effect.Store instr.now addr value) result }
+    ensures { DoesEffect (state_of kernel.old) (state_of kernel.new) hart.old.state (Effect.Store instr.now addr value) (did result hart.new) }
 {
     let Instr::Store {
         width,
@@ -124,44 +125,57 @@ fn store(kernel: &mut Kernel, state: &HartState, instr: &Instr, addr: u32, value
     else {
         unreachable!()
     };
-    let bytes = width.bytes();
-    if addr % u32::from(bytes) != 0 {
-        return fault(state, FaultCause::Align, addr);
+    if !is_store_aligned(width, addr) {
+        return fault(hart, FaultCause::Align, addr);
     }
-    match kernel.mem_mut().write(addr, bytes, value) {
+    match kernel.mem_mut().write(addr, width.bytes(), value) {
         Ok(()) => {
+            end_store(&mut hart.state);
             let kind = Kind::St {
                 width,
                 rv: rs2,
                 rb: rs1,
                 addr,
             };
-            goes_on(kind, &finish_store(state))
+            goes_on(hart, kind)
         }
-        Err(MemFault::Unmapped { byte: _ }) => fault(state, FaultCause::Unmapped, addr),
-        Err(MemFault::ReadOnly) => fault(state, FaultCause::ReadOnly, addr),
+        Err(MemFault::Unmapped { byte: _ }) => fault(hart, FaultCause::Unmapped, addr),
+        Err(MemFault::ReadOnly) => fault(hart, FaultCause::ReadOnly, addr),
+    }
+}
+
+/// Whether an address is a multiple of a store's width.
+#[inline]
+fn is_store_aligned(width: StoreWidth, addr: u32) -> bool
+    ensures { result ≡ (addr % store_bytes width == 0) }
+{
+    match width {
+        StoreWidth::B => true,
+        StoreWidth::H => addr % 2 == 0,
+        StoreWidth::W => addr % 4 == 0,
     }
 }
 
 /// Calls the kernel.
-fn call(kernel: &mut Kernel, state: &HartState) -> Result<Did, NoMemory>
-    ensures did { IfOk result (DoesEffect (state_of kernel.old) (state_of kernel.new) state.now Effect.Call) }
-    ensures unchanged { OnErr result (kernel.new ≡ kernel.old) }
+fn call(kernel: &mut Kernel, hart: &mut Standing) -> Result<Kind, NoMemory>
+    ensures did { IfOk result (λ kind. DoesEffect (state_of kernel.old) (state_of kernel.new) hart.old.state Effect.Call (did kind hart.new)) }
+    ensures kernel { OnErr result (kernel.new ≡ kernel.old) }
+    ensures hart { OnErr result (hart.new ≡ hart.old) }
 {
     let args = CallArgs {
-        a7: state.reg(17),
-        a0: state.reg(10),
-        a1: state.reg(11),
-        a2: state.reg(12),
+        a7: hart.state.reg(17),
+        a0: hart.state.reg(10),
+        a1: hart.state.reg(11),
+        a2: hart.state.reg(12),
     };
     match kernel.call(args)? {
-        KernelStep::Ended { code } => Ok(Did {
-            kind: Kind::Ex,
-            next: Standing {
-                state: *state,
-                end: HartEnd::Exit { code },
-            },
-        }),
-        KernelStep::Went { a0, kind } => Ok(goes_on(kind, &finish_call(state, a0))),
+        KernelStep::Ended { code } => {
+            hart.end = HartEnd::Exit { code };
+            Ok(Kind::Ex)
+        }
+        KernelStep::Went { a0, kind } => {
+            end_call(&mut hart.state, a0);
+            Ok(goes_on(hart, kind))
+        }
     }
 }

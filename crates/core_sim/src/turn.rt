@@ -42,6 +42,7 @@ impl Turn {
     }
 
     /// The turn that the next step belongs to; none exactly where no hart is live.
+    #[inline]
     pub fn of_step(&self, items: &[Item], harts: &[Standing]) -> Option<Turn>
         requires { length harts.now ≤ 8 }
         ensures { IsTurnOf harts.now (turn_of_step items.now self.now (live_harts harts.now)) result }
@@ -57,6 +58,7 @@ impl Turn {
     }
 
     /// Whether steps are left, and the hart is live.
+    #[inline]
     fn goes_on(&self, harts: &[Standing]) -> bool
         ensures { result ≡ (nat_lt 0 self.now.left && is_among_live (live_harts harts.now) self.now.hart) }
     {
@@ -64,6 +66,7 @@ impl Turn {
     }
 
     /// The turn after one of its steps.
+    #[inline]
     pub fn stepped(&self) -> Turn
         ensures { result ≡ stepped self.now }
     {
@@ -76,6 +79,7 @@ impl Turn {
 }
 
 /// Whether the hart of a number is live.
+#[inline]
 fn is_live(harts: &[Standing], hart: u8) -> bool
     ensures { result ≡ is_among_live (live_harts harts.now) hart }
 {

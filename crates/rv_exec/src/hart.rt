@@ -37,6 +37,7 @@ impl HartState {
     }
 
     /// What register `r` holds; 0 for register 0.
+    #[inline]
     pub fn reg(&self, r: u8) -> u32
         requires { r < 32 }
         ensures value { result ≡ x self.now r }
@@ -45,29 +46,28 @@ impl HartState {
         self.registers[r as usize]
     }
 
-    /// The hart at `pc` after a write of register `rd`, which register 0 does not take.
-    pub(crate) fn after(&self, rd: u8, value: u32, pc: u32) -> HartState
+    /// Writes register `rd`, which register 0 does not take, and goes on at `pc`.
+    #[inline]
+    pub(crate) fn put(&mut self, rd: u8, value: u32, pc: u32)
         requires { rd < 32 }
-        ensures { result ≡ record { pc = pc; registers = written rd value self.now.registers } }
+        ensures { self.new ≡ record { pc = pc; registers = written rd value self.old.registers } }
     {
-        let mut registers = self.registers;
         if rd != 0 {
-            registers[rd as usize] = value;
+            self.registers[rd as usize] = value;
         }
-        HartState { pc, registers }
+        self.pc = pc;
     }
 
-    /// The hart at `pc`, with its registers as they are.
-    pub(crate) fn at(&self, pc: u32) -> HartState
-        ensures { result ≡ record { pc = pc; registers = self.now.registers } }
+    /// Goes on at `pc`, with its registers as they are.
+    #[inline]
+    pub(crate) fn go(&mut self, pc: u32)
+        ensures { self.new ≡ record { pc = pc; registers = self.old.registers } }
     {
-        HartState {
-            pc,
-            registers: self.registers,
-        }
+        self.pc = pc;
     }
 
     /// The address of the instruction that follows in memory.
+    #[inline]
     pub(crate) fn next_pc(&self) -> u32
         ensures { result ≡ (self.now.pc + 4) % 2 ^ 32 }
     {

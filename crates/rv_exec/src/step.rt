@@ -1,11 +1,12 @@
 ghost use Rattle.std.specs.Prelude.{◌≡◌, ◌<◌, ◌↔◌, IsNone};
 ghost use Rattle.rv_isa.specs.Table.{instruction_of};
 ghost use Rattle.rv_isa.specs.Valid.{IsValid};
+ghost use Rattle.rv_exec.specs.Advance.{Advances};
 ghost use Rattle.rv_exec.specs.Hart.{x};
 ghost use Rattle.rv_exec.specs.Meaning.{moved, effect_of, effect_at, IsLoad, loaded, after, at_pc, next_pc};
 
 use crate::arithmetic::{extended, is_taken, on_registers, operate};
-use crate::effect::Effect;
+use crate::effect::{Effect, Wanted};
 use crate::hart::HartState;
 use rv_isa::{Instr, decode};
 
@@ -24,86 +25,132 @@ fn effect(state: &HartState, instr: &Instr) -> Effect
     requires { IsValid instr.now }
     ensures { result ≡ effect_of state.now instr.now }
 {
-    let next_pc = state.next_pc();
-    let next = match *instr {
-        Instr::Lui { rd, imm } => state.after(rd, imm * (1 << 12), next_pc),
-        Instr::Auipc { rd, imm } => {
-            state.after(rd, state.pc.wrapping_add(imm * (1 << 12)), next_pc)
-        }
-        Instr::Jal { rd, off } => state.after(rd, next_pc, state.pc.wrapping_add_signed(off)),
-        Instr::Jalr { rd, rs1, imm } => {
-            let target = state.reg(rs1).wrapping_add_signed(imm) / 2 * 2;
-            state.after(rd, next_pc, target)
-        }
-        Instr::Branch { op, rs1, rs2, off } => {
-            if is_taken(op, state.reg(rs1), state.reg(rs2)) {
-                state.at(state.pc.wrapping_add_signed(off))
-            } else {
-                state.at(next_pc)
-            }
-        }
-        Instr::Load { rs1, imm, .. } => return load(state, instr, rs1, imm),
-        Instr::Store { rs2, rs1, imm, .. } => return store(state, instr, rs2, rs1, imm),
-        Instr::OpImm { op, rd, rs1, imm } => {
-            let value = operate(on_registers(op), state.reg(rs1), imm.cast_unsigned());
-            state.after(rd, value, next_pc)
-        }
-        Instr::Op { op, rd, rs1, rs2 } => {
-            state.after(rd, operate(op, state.reg(rs1), state.reg(rs2)), next_pc)
-        }
-        Instr::Fence { bits: _ } => state.at(next_pc),
-        Instr::Ecall => return Effect::Call,
-    };
-    Effect::Plain {
-        instr: *instr,
-        next,
+    let mut next = *state;
+    let instr = *instr;
+    match advance(&mut next, &instr) {
+        Wanted::Nothing => Effect::Plain { instr, next },
+        Wanted::Bytes { addr } => Effect::Load { instr, addr },
+        Wanted::Room { addr, value } => Effect::Store { instr, addr, value },
+        Wanted::Kernel => Effect::Call,
     }
 }
 
-fn load(state: &HartState, instr: &Instr, rs1: u8, imm: i32) -> Effect
-    requires { rs1 < 32 }
-    ensures { result ≡ Effect.Load instr.now (moved (x state.now rs1) imm) }
+/// Does an instruction to the hart itself, as far as it needs no memory, and tells what it still wants: the hart has
+/// changed exactly where that is nothing.
+#[inline]
+pub fn advance(state: &mut HartState, instr: &Instr) -> Wanted
+    requires { IsValid instr.now }
+    ensures { Advances state.old instr.now state.new result }
 {
-    Effect::Load {
-        instr: *instr,
+    let next_pc = state.next_pc();
+    match *instr {
+        Instr::Lui { rd, imm } => state.put(rd, imm * (1 << 12), next_pc),
+        Instr::Auipc { rd, imm } => {
+            state.put(rd, state.pc.wrapping_add(imm * (1 << 12)), next_pc)
+        }
+        Instr::Jal { rd, off } => state.put(rd, next_pc, state.pc.wrapping_add_signed(off)),
+        Instr::Jalr { rd, rs1, imm } => {
+            let target = state.reg(rs1).wrapping_add_signed(imm) / 2 * 2;
+            state.put(rd, next_pc, target)
+        }
+        Instr::Branch { op, rs1, rs2, off } => {
+            if is_taken(op, state.reg(rs1), state.reg(rs2)) {
+                state.go(state.pc.wrapping_add_signed(off))
+            } else {
+                state.go(next_pc)
+            }
+        }
+        Instr::Load { rs1, imm, .. } => return load(state, rs1, imm),
+        Instr::Store { rs2, rs1, imm, .. } => return store(state, rs2, rs1, imm),
+        Instr::OpImm { op, rd, rs1, imm } => {
+            let value = operate(on_registers(op), state.reg(rs1), imm.cast_unsigned());
+            state.put(rd, value, next_pc)
+        }
+        Instr::Op { op, rd, rs1, rs2 } => {
+            state.put(rd, operate(op, state.reg(rs1), state.reg(rs2)), next_pc)
+        }
+        Instr::Fence { bits: _ } => state.go(next_pc),
+        Instr::Ecall => return Wanted::Kernel,
+    }
+    Wanted::Nothing
+}
+
+#[inline]
+fn load(state: &HartState, rs1: u8, imm: i32) -> Wanted
+    requires { rs1 < 32 }
+    ensures { result ≡ Wanted.Bytes (moved (x state.now rs1) imm) }
+{
+    Wanted::Bytes {
         addr: state.reg(rs1).wrapping_add_signed(imm),
     }
 }
 
-fn store(state: &HartState, instr: &Instr, rs2: u8, rs1: u8, imm: i32) -> Effect
+#[inline]
+fn store(state: &HartState, rs2: u8, rs1: u8, imm: i32) -> Wanted
     requires { (rs2 < 32) × (rs1 < 32) }
-    ensures { result ≡ Effect.Store instr.now (moved (x state.now rs1) imm) (x state.now rs2) }
+    ensures { result ≡ Wanted.Room (moved (x state.now rs1) imm) (x state.now rs2) }
 {
-    Effect::Store {
-        instr: *instr,
+    Wanted::Room {
         addr: state.reg(rs1).wrapping_add_signed(imm),
         value: state.reg(rs2),
     }
 }
 
-/// Ends a load whose bytes, read as one little-endian number, are `raw`: writes its register and
+/// Ends a load in the hart itself, whose bytes, read as one little-endian number, are `raw`: writes its register and
 /// goes on to the next instruction.
+#[inline]
+pub fn end_load(state: &mut HartState, instr: &Instr, raw: u32)
+    requires valid { IsValid instr.now }
+    requires load { IsLoad instr.now }
+    ensures { state.new ≡ loaded state.old instr.now raw }
+{
+    match *instr {
+        Instr::Load { width, rd, .. } => state.put(rd, extended(width, raw), state.next_pc()),
+        _ => unreachable!(),
+    }
+}
+
+/// Ends a store in the hart itself: goes on to the next instruction.
+#[inline]
+pub fn end_store(state: &mut HartState)
+    ensures { state.new ≡ at_pc state.old (next_pc state.old) }
+{
+    state.go(state.next_pc());
+}
+
+/// Ends a call of the kernel in the hart itself: writes its answer to register a0, and goes on to the next
+/// instruction.
+pub fn end_call(state: &mut HartState, a0: u32)
+    ensures { state.new ≡ after state.old 10 a0 (next_pc state.old) }
+{
+    state.put(10, a0, state.next_pc());
+}
+
+/// The hart after a load whose bytes, read as one little-endian number, are `raw`.
 pub fn finish_load(state: &HartState, instr: &Instr, raw: u32) -> HartState
     requires valid { IsValid instr.now }
     requires load { IsLoad instr.now }
     ensures { result ≡ loaded state.now instr.now raw }
 {
-    match *instr {
-        Instr::Load { width, rd, .. } => { state.after(rd, extended(width, raw), state.next_pc()) }
-        _ => unreachable!(),
-    }
+    let mut next = *state;
+    end_load(&mut next, instr, raw);
+    next
 }
 
-/// Ends a store: goes on to the next instruction.
+/// The hart after a store, at the next instruction.
 pub fn finish_store(state: &HartState) -> HartState
     ensures { result ≡ at_pc state.now (next_pc state.now) }
 {
-    state.at(state.next_pc())
+    let mut next = *state;
+    end_store(&mut next);
+    next
 }
 
-/// Ends a call of the kernel: writes its answer to register a0, and goes on to the next instruction.
+/// The hart after a call of the kernel, with its answer in register a0, at the next instruction.
 pub fn finish_call(state: &HartState, a0: u32) -> HartState
     ensures { result ≡ after state.now 10 a0 (next_pc state.now) }
 {
-    state.after(10, a0, state.next_pc())
+    let mut next = *state;
+    end_call(&mut next, a0);
+    next
 }

@@ -1,5 +1,5 @@
 use crate::arithmetic::operate;
-use crate::{Effect, HartState, begin, finish_call, finish_load, finish_store};
+use crate::{Effect, HartState, Wanted, advance, begin, finish_call, finish_load, finish_store};
 use pl_base::LoadWidth;
 use rv_isa::{Instr, RegOp};
 use std::process::Abort;
@@ -63,6 +63,21 @@ fn memory_and_the_kernel_are_asked(rt: HostRuntime) {
     }
     assert_eq!(rt; begin(&state, 0x00000073), Effect::Call);
     assert_eq!(rt; begin(&state, 0x00100073), Effect::Illegal);
+}
+
+#[test]
+fn a_hart_changes_in_place_where_nothing_more_is_wanted(rt: HostRuntime) {
+    let mut state = HartState::start(0x10000, 0);
+    let add = Instr::Op {
+        op: RegOp::Add,
+        rd: 5,
+        rs1: 2,
+        rs2: 2,
+    };
+    assert_eq!(rt; advance(&mut state, &add), Wanted::Nothing);
+    assert_eq!(rt; state.reg(5), 0x1e08000);
+    assert_eq!(rt; advance(&mut state, &Instr::Ecall), Wanted::Kernel);
+    assert_eq!(rt; state.pc, 0x10004);
 }
 
 #[test]

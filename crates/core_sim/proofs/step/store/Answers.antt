@@ -1,5 +1,6 @@
-use Rattle.std.proofs.Common.{◌≡◌, ◌≢◌, ℕ, ◌%◌, List, Option, take, refl, ap, ◌∙◌, subst}
+use Rattle.std.proofs.Common.{◌≡◌, ℕ, ◌%◌, List, Option, take, refl, ap, ◌∙◌, subst, sym, ◌==◌, false}
 use Rattle.std.specs.Int.{to_le_bytes, w32}
+use Rattle.std.proofs.lemmas.Bool.{both_ways, eq-eqb, eqb-true}
 use Rattle.pl_base.specs.declared.widths.FaultCause.TheVariants.{Align, Unmapped, ReadOnly}
 use Rattle.pl_base.specs.Widths.{store_bytes}
 use Rattle.pl_event.specs.declared.event.Kind.TheVariants.{St}
@@ -14,44 +15,41 @@ use Rattle.core_sim.specs.Doing.{did_go_on}
 use Rattle.core_sim.proofs.Doings.{store_faults, store_does, not_mapped, not_clear}
 use Rattle.core_sim.proofs.step.store.Goals as goal
 
-pub returns-then-addr-from-ne0 : goal.returns-then-addr-from-ne0
-returns-then-addr-from-ne0 c =
-    let width : c.from.result ≡ store_bytes c.in-Store.width = c.from.ensures ∙ c.bytes-bytes.ensures in
-    store_faults _ _ _ _ c.in-Store.width c.in-Store.rs2 c.in-Store.rs1 c.in-Store.imm _ _ Align _ c.in-Store.is (subst (λ (n : ℕ). c.args.addr % n ≢ 0) width c.if-addr-from-ne0.true) c.fault.ensures refl
+pub returns-then-not-is_store_aligned : goal.returns-then-not-is_store_aligned
+returns-then-not-is_store_aligned c =
+    let fails : (c.args.addr % store_bytes c.in-Store.width == 0) ≡ false = sym c.is_store_aligned.ensures ∙ c.if-not-is_store_aligned.true in
+    store_faults _ _ _ _ c.in-Store.width c.in-Store.rs2 c.in-Store.rs1 c.in-Store.imm _ _ Align _ c.in-Store.is (λ e. both_ways _ fails (eq-eqb _ _ e)) c.fault.ensures refl
 
 pub returns-in-Ok : goal.returns-in-Ok
 returns-in-Ok c =
-    let width : c.from.result ≡ store_bytes c.in-Store.width = c.from.ensures ∙ c.bytes-bytes.ensures in
-    let aligned : c.args.addr % store_bytes c.in-Store.width ≡ 0 = subst (λ (n : ℕ). c.args.addr % n ≡ 0) width c.if-addr-from-ne0.false in
-    let there : IsWritable c.mem_mut.result.now c.args.addr c.bytes-bytes.result = c.in-Ok.ensures.can in
-    let can : IsWritable c.args.kernel.now.memory c.args.addr c.bytes-bytes.result = subst (λ (m : List (Option PageImage)). IsWritable m c.args.addr c.bytes-bytes.result) c.mem_mut.ensures.value there in
-    let writable : IsWritable c.args.kernel.now.memory c.args.addr (store_bytes c.in-Store.width) = subst (λ (n : ℕ). IsWritable c.args.kernel.now.memory c.args.addr n) c.bytes-bytes.ensures can in
-    let now : bytes c.write.new.self ≡ written (bytes c.args.kernel.now.memory) c.args.addr (take c.bytes-bytes.result (to_le_bytes w32 c.args.value)) =
-    c.in-Ok.ensures.bytes ∙ ap (λ (m : List (Option PageImage)). written (bytes m) c.args.addr (take c.bytes-bytes.result (to_le_bytes w32 c.args.value))) c.mem_mut.ensures.value in
+    let aligned : c.args.addr % store_bytes c.in-Store.width ≡ 0 = eqb-true _ _ (sym c.is_store_aligned.ensures ∙ c.if-not-is_store_aligned.false) in
+    let there : IsWritable c.mem_mut.result.now c.args.addr c.bytes.result = c.in-Ok.ensures.can in
+    let can : IsWritable c.args.kernel.now.memory c.args.addr c.bytes.result = subst (λ (m : List (Option PageImage)). IsWritable m c.args.addr c.bytes.result) c.mem_mut.ensures.value there in
+    let writable : IsWritable c.args.kernel.now.memory c.args.addr (store_bytes c.in-Store.width) = subst (λ (n : ℕ). IsWritable c.args.kernel.now.memory c.args.addr n) c.bytes.ensures can in
+    let now : bytes c.write.new.self ≡ written (bytes c.args.kernel.now.memory) c.args.addr (take c.bytes.result (to_le_bytes w32 c.args.value)) =
+    c.in-Ok.ensures.bytes ∙ ap (λ (m : List (Option PageImage)). written (bytes m) c.args.addr (take c.bytes.result (to_le_bytes w32 c.args.value))) c.mem_mut.ensures.value in
     store_does c.args.kernel.now _ _ _ c.in-Store.width c.in-Store.rs2 c.in-Store.rs1 c.in-Store.imm _ _ _ c.in-Store.is
     (record { aligned = aligned; all_mapped = writable.all_mapped; no_text = writable.no_text })
-    (c.goes_on.ensures ∙ ap (λ (h : Hart). did_go_on (St c.in-Store.width c.in-Store.rs2 c.in-Store.rs1 c.args.addr) h) c.finish_store.ensures)
-    (now ∙ ap (λ (n : ℕ). written (bytes c.args.kernel.now.memory) c.args.addr (take n (to_le_bytes w32 c.args.value))) c.bytes-bytes.ensures)
+    (c.goes_on.ensures ∙ ap (λ (h : Hart). did_go_on (St c.in-Store.width c.in-Store.rs2 c.in-Store.rs1 c.args.addr) h) c.end_store.ensures)
+    (now ∙ ap (λ (n : ℕ). written (bytes c.args.kernel.now.memory) c.args.addr (take n (to_le_bytes w32 c.args.value))) c.bytes.ensures)
     (c.in-Ok.ensures.mapped ∙ ap mapped c.mem_mut.ensures.value) (c.in-Ok.ensures.texts ∙ ap texts c.mem_mut.ensures.value) refl refl refl
 
 pub returns-in-Err-Unmapped : goal.returns-in-Err-Unmapped
 returns-in-Err-Unmapped c =
-    let width : c.from.result ≡ store_bytes c.in-Store.width = c.from.ensures ∙ c.bytes-bytes.ensures in
-    let aligned : c.args.addr % store_bytes c.in-Store.width ≡ 0 = subst (λ (n : ℕ). c.args.addr % n ≡ 0) width c.if-addr-from-ne0.false in
-    let there : IsWriteFault c.mem_mut.result.now c.args.addr c.bytes-bytes.result (mem_faults.Unmapped c.in-Err-Unmapped.field-0-0) = rw c.in-Err-Unmapped.field-0-is at c.in-Err-Unmapped.ensures.fault in
-    let why : IsWriteFault c.args.kernel.now.memory c.args.addr c.bytes-bytes.result (mem_faults.Unmapped c.in-Err-Unmapped.field-0-0) = subst (λ (m : List (Option PageImage)). IsWriteFault m c.args.addr c.bytes-bytes.result (mem_faults.Unmapped c.in-Err-Unmapped.field-0-0)) c.mem_mut.ensures.value there in
-    let so : IsWriteFault c.args.kernel.now.memory c.args.addr (store_bytes c.in-Store.width) (mem_faults.Unmapped c.in-Err-Unmapped.field-0-0) = subst (λ (n : ℕ). IsWriteFault c.args.kernel.now.memory c.args.addr n (mem_faults.Unmapped c.in-Err-Unmapped.field-0-0)) c.bytes-bytes.ensures why in
+    let aligned : c.args.addr % store_bytes c.in-Store.width ≡ 0 = eqb-true _ _ (sym c.is_store_aligned.ensures ∙ c.if-not-is_store_aligned.false) in
+    let there : IsWriteFault c.mem_mut.result.now c.args.addr c.bytes.result (mem_faults.Unmapped c.in-Err-Unmapped.field-0-0) = rw c.in-Err-Unmapped.field-0-is at c.in-Err-Unmapped.ensures.fault in
+    let why : IsWriteFault c.args.kernel.now.memory c.args.addr c.bytes.result (mem_faults.Unmapped c.in-Err-Unmapped.field-0-0) = subst (λ (m : List (Option PageImage)). IsWriteFault m c.args.addr c.bytes.result (mem_faults.Unmapped c.in-Err-Unmapped.field-0-0)) c.mem_mut.ensures.value there in
+    let so : IsWriteFault c.args.kernel.now.memory c.args.addr (store_bytes c.in-Store.width) (mem_faults.Unmapped c.in-Err-Unmapped.field-0-0) = subst (λ (n : ℕ). IsWriteFault c.args.kernel.now.memory c.args.addr n (mem_faults.Unmapped c.in-Err-Unmapped.field-0-0)) c.bytes.ensures why in
     store_faults _ _ _ _ c.in-Store.width c.in-Store.rs2 c.in-Store.rs1 c.in-Store.imm _ _ Unmapped _ c.in-Store.is
     (aligned, not_mapped _ _ _ (mem_faults.Unmapped c.in-Err-Unmapped.field-0-0) so) c.fault-in-Err-Unmapped.ensures
     (ap (λ (m : List (Option PageImage)). state_of (record c.args.kernel.now { memory = m })) (c.in-Err-Unmapped.ensures.unchanged ∙ c.mem_mut.ensures.value))
 
 pub returns-in-Err-ReadOnly : goal.returns-in-Err-ReadOnly
 returns-in-Err-ReadOnly c =
-    let width : c.from.result ≡ store_bytes c.in-Store.width = c.from.ensures ∙ c.bytes-bytes.ensures in
-    let aligned : c.args.addr % store_bytes c.in-Store.width ≡ 0 = subst (λ (n : ℕ). c.args.addr % n ≡ 0) width c.if-addr-from-ne0.false in
-    let there : IsWriteFault c.mem_mut.result.now c.args.addr c.bytes-bytes.result mem_faults.ReadOnly = rw c.in-Err-ReadOnly.field-0-is at c.in-Err-ReadOnly.ensures.fault in
-    let why : IsWriteFault c.args.kernel.now.memory c.args.addr c.bytes-bytes.result mem_faults.ReadOnly = subst (λ (m : List (Option PageImage)). IsWriteFault m c.args.addr c.bytes-bytes.result mem_faults.ReadOnly) c.mem_mut.ensures.value there in
-    let so : IsWriteFault c.args.kernel.now.memory c.args.addr (store_bytes c.in-Store.width) mem_faults.ReadOnly = subst (λ (n : ℕ). IsWriteFault c.args.kernel.now.memory c.args.addr n mem_faults.ReadOnly) c.bytes-bytes.ensures why in
+    let aligned : c.args.addr % store_bytes c.in-Store.width ≡ 0 = eqb-true _ _ (sym c.is_store_aligned.ensures ∙ c.if-not-is_store_aligned.false) in
+    let there : IsWriteFault c.mem_mut.result.now c.args.addr c.bytes.result mem_faults.ReadOnly = rw c.in-Err-ReadOnly.field-0-is at c.in-Err-ReadOnly.ensures.fault in
+    let why : IsWriteFault c.args.kernel.now.memory c.args.addr c.bytes.result mem_faults.ReadOnly = subst (λ (m : List (Option PageImage)). IsWriteFault m c.args.addr c.bytes.result mem_faults.ReadOnly) c.mem_mut.ensures.value there in
+    let so : IsWriteFault c.args.kernel.now.memory c.args.addr (store_bytes c.in-Store.width) mem_faults.ReadOnly = subst (λ (n : ℕ). IsWriteFault c.args.kernel.now.memory c.args.addr n mem_faults.ReadOnly) c.bytes.ensures why in
     store_faults _ _ _ _ c.in-Store.width c.in-Store.rs2 c.in-Store.rs1 c.in-Store.imm _ _ ReadOnly _ c.in-Store.is
     (aligned, (so.0, not_clear _ _ _ so.1)) c.fault-in-Err-ReadOnly.ensures
     (ap (λ (m : List (Option PageImage)). state_of (record c.args.kernel.now { memory = m })) (c.in-Err-ReadOnly.ensures.unchanged ∙ c.mem_mut.ensures.value))

@@ -2,7 +2,7 @@ use Rattle.std.proofs.Common.{◌≡◌, ◌≢◌, ℕ, ◌<◌, List, [], leng
 use Rattle.guest_kernel.specs.State.{state_of}
 use Rattle.core_sim.specs.declared.hart.Standing.{Standing}
 use Rattle.core_sim.specs.declared.job.Item.{Item}
-use Rattle.core_sim.specs.Doing.{Does}
+use Rattle.core_sim.specs.Doing.{Did, did, Does}
 use Rattle.core_sim.specs.Harts.{live_harts}
 use Rattle.core_sim.specs.Schedules.{turn_of_step}
 use Rattle.core_sim.specs.Stands.{Stands}
@@ -28,10 +28,9 @@ returns-clause-comes c = λ job entries stands.
     ∙ ap (λ (hs : List Standing). turn_of_step c.self.inside.items c.self.inside.turn (live_harts hs)) c.deref.ensures.value in
     let within : c.in-Some.turn.hart < length c.self.inside.harts.items = omega (arith, c.in-Some.ensures.within, ap length c.deref.ensures.value) in
     let number : c.from-hart.result ≡ c.in-Some.turn.hart = c.from-hart.ensures in
-    let state : c.index.result.now.state ≡ (slice_index_or c.self.inside.harts.items c.in-Some.turn.hart (standing_at 0 0)).state =
-    ap (λ (h : Standing). h.state) (c.index.ensures ∙ ap (λ (n : ℕ). slice_index_or c.self.inside.harts.items n c.index.result.now) number ∙ hart_is c.self.inside.harts.items c.in-Some.turn.hart c.index.result.now (standing_at 0 0) within) in
-    let did : Does c.as_slice-2.result.now (state_of c.self.inside.kernel) (state_of c.execute.new.kernel) c.index.result.now.state c.in_ok-did.did = c.in_ok-did.ensures.did in
-    let does : Does c.self.inside.words (state_of c.self.inside.kernel) (state_of c.execute.new.kernel) c.index.result.now.state c.in_ok-did.did =
-    subst (λ (words : List ℕ). Does words (state_of c.self.inside.kernel) (state_of c.execute.new.kernel) c.index.result.now.state c.in_ok-did.did) c.as_slice-2.ensures did in
-    goes_on job entries _ _ c.in-Some.turn c.index.result.now.state c.in_ok-did.did _ here turn_here live c.if-self.false state does
-    refl refl refl (ap (λ (n : ℕ). slice_set c.self.inside.harts.items n c.in_ok-did.did.next) number) c.stepped-self-inside.ensures refl c.one.ensures
+    let state : c.index_mut.result.now.state ≡ (slice_index_or c.self.inside.harts.items c.in-Some.turn.hart (standing_at 0 0)).state =
+    ap (λ (h : Standing). h.state) (c.index_mut.ensures.value ∙ ap (λ (n : ℕ). slice_index_or c.self.inside.harts.items n c.index_mut.result.now) number ∙ hart_is c.self.inside.harts.items c.in-Some.turn.hart c.index_mut.result.now (standing_at 0 0) within) in
+    let came : Did = did c.in_ok-kind.kind c.execute.new.hart in
+    let does : Does c.self.inside.text (state_of c.self.inside.kernel) (state_of c.execute.new.kernel) c.index_mut.result.now.state came = c.in_ok-kind.ensures.did in
+    goes_on job entries _ _ c.in-Some.turn c.index_mut.result.now.state came _ here turn_here live c.if-self.false state does
+    refl refl refl (ap (λ (n : ℕ). slice_set c.self.inside.harts.items n c.execute.new.hart) number) c.stepped-self-inside.ensures refl c.one.ensures

@@ -9,7 +9,7 @@ use Rattle.guest_asm.specs.declared.cause.JobFault.{JobFault}
 use Rattle.guest_asm.specs.declared.number.Number.{Number}
 use Rattle.guest_asm.specs.Jobs.{Placed, Cell, raw, AreCells, Appends, IsTextOf, fault_at, placed, statement_cells, on_line, target, row_cells, second_pass, ◌>>=◌}
 
-AreCells-append : (a b : List Cell) (xs ys : List ℕ) → AreCells a xs → AreCells b ys → AreCells (a ++ b) (xs ++ ys)
+pub AreCells-append : (a b : List Cell) (xs ys : List ℕ) → AreCells a xs → AreCells b ys → AreCells (a ++ b) (xs ++ ys)
 AreCells-append [] b [] ys h k = k
 AreCells-append [] b (x ∷ xs) ys h k = absurd h
 AreCells-append (c ∷ a) b [] ys h k = absurd h

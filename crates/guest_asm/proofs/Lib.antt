@@ -11,3 +11,5 @@ pub mod Validity
 pub mod Labels
 pub mod Whole
 pub mod One
+pub mod Generating
+pub mod Generated

@@ -16,7 +16,7 @@ same_word : (c : Cell) (x y : ℕ) → IsCell c x → IsCell c y → x ≡ y
 same_word (raw n) x y h k = h ∙ sym k
 same_word (coded i) x y h k = only_word x y i h.0 k.0 h.1 k.1
 
-same_words : (cells : List Cell) (xs ys : List ℕ) → AreCells cells xs → AreCells cells ys → xs ≡ ys
+pub same_words : (cells : List Cell) (xs ys : List ℕ) → AreCells cells xs → AreCells cells ys → xs ≡ ys
 same_words [] [] [] h k = refl
 same_words [] [] (y ∷ ys) h k = absurd k
 same_words [] (x ∷ xs) ys h k = absurd h
@@ -25,7 +25,7 @@ same_words (c ∷ cells) (x ∷ xs) [] h k = absurd k
 same_words (c ∷ cells) (x ∷ xs) (y ∷ ys) h k =
     ap (λ (z : ℕ). z ∷ xs) (same_word c x y h.0 k.0) ∙ ap (λ (zs : List ℕ). y ∷ zs) (same_words cells xs ys h.1 k.1)
 
-same_job : (a b : Job) → a.harts ≡ b.harts → a.schedule ≡ b.schedule → a.steps ≡ b.steps → a.words ≡ b.words → a.data_bytes ≡ b.data_bytes → a.input ≡ b.input → a.entries ≡ b.entries → a ≡ b
+pub same_job : (a b : Job) → a.harts ≡ b.harts → a.schedule ≡ b.schedule → a.steps ≡ b.steps → a.words ≡ b.words → a.data_bytes ≡ b.data_bytes → a.input ≡ b.input → a.entries ≡ b.entries → a ≡ b
 same_job a b harts schedule steps words data_bytes input entries = λ j. record {
   harts = harts j;
   schedule = schedule j;

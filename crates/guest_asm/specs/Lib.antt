@@ -8,3 +8,4 @@ pub mod Rules
 pub mod Jobs
 pub mod Scans
 pub mod Listing
+pub mod Generated

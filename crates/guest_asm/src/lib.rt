@@ -1,15 +1,20 @@
-//! The text of a job: a guest in assembler text, with what it is run on, and the listing of its words.
+//! The text of a job: a guest in assembler text, with what it is run on, the listing of its words, and jobs that are
+//! drawn from numbers.
 //!
 //! A line means an optional label and an optional statement, whatever stands before it. The first pass reads the lines
 //! one by one, tries the rules against the lines before, and keeps each statement with its place and each label with
 //! its address. The second pass puts the addresses into the words.
 #![tactic(auto)]
 
+mod action;
 mod build;
 mod bytes;
 mod cause;
 mod code;
 mod directive;
+#[cfg(test)]
+mod generated_tests;
+mod generator;
 mod line;
 mod list;
 mod mnemonic;
@@ -23,5 +28,6 @@ mod statement;
 mod tests;
 
 pub use cause::{JobCause, JobFault, JobRefused};
+pub use generator::generate;
 pub use list::listing;
 pub use read::read_job;

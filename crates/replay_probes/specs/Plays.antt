@@ -1,5 +1,5 @@
 -- A run that is played under the eyes of probes.
-use Rattle.std.specs.Prelude.{ℕ, List}
+use Rattle.std.specs.Prelude.{List}
 use Rattle.pl_event.specs.declared.event.Event.{Event}
 use Rattle.pl_event.specs.declared.log.PageRun.{PageRun}
 use Rattle.lifeguard.specs.Rules.{Rules}

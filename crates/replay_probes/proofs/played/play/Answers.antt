@@ -1,4 +1,4 @@
-use Rattle.std.proofs.Common.{◌≡◌, ◌∙◌, sym, ap, subst, arith, take, [], ◌++◌, map}
+use Rattle.std.proofs.Common.{◌∙◌, sym, ap, subst, arith, take, [], ◌++◌, map}
 use Rattle.std.specs.List.{cons_option}
 use Rattle.lifeguard.specs.Rules.{Rules}
 use Rattle.pl_event.specs.declared.log.Line.{Line}

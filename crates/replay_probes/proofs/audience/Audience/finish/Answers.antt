@@ -1,4 +1,4 @@
-use Rattle.std.proofs.Common.{◌≡◌, ◌∙◌, map}
+use Rattle.std.proofs.Common.{◌∙◌, map}
 use Rattle.std.proofs.lemmas.List.{length-map}
 use Rattle.replay_probes.proofs.Telling.{told_lines}
 use Rattle.replay_probes.proofs.audience.Audience.finish.Goals as goal

@@ -1,7 +1,7 @@
-use Rattle.std.proofs.Common.{◌≡◌, ◌∷◌, ◌++◌, [], ◌∙◌, ap, sym}
+use Rattle.std.proofs.Common.{◌∙◌, ap, sym}
 use Rattle.std.specs.Prelude.{is_some}
 use Rattle.replay_probes.specs.declared.probe.Shown.{Shown}
-use Rattle.standard_probes.specs.Probes.{first_alert, first_alert_of}
+use Rattle.standard_probes.specs.Probes.{first_alert_of}
 use Rattle.standard_probes.proofs.Tallying.{first_alert-last}
 use Rattle.standard_probes.proofs.alert.AlertProbeProbe.see.Goals as goal
 

@@ -50,7 +50,7 @@ fn is_misplaced(tally: &Tally, run: PageRun) -> bool
 }
 
 /// The first rule that a record breaks behind the lines so far.
-#[inline]
+#[inline(always)]
 pub fn judge_row(tally: &Tally, what: Record, has_arcs: bool, list: &ArcList) -> Option<LogCause>
     ensures { (before : List Entry) (arcs : List Point) → Keeps tally.now before → ShowsPoints has_arcs list.now arcs → result ≡ broken tally.now.harts before (row what arcs) }
 {

@@ -12,6 +12,7 @@ mod page_set;
 mod points;
 mod read;
 mod reader;
+mod take;
 mod tally;
 mod write;
 

@@ -9,8 +9,9 @@ ghost use Rattle.log_text.specs.Reading.{HasRead, IsReadBy, ReadsRow, IsOnly, Is
 
 use crate::cause::{LogCause, LogFault, LogRefused};
 use crate::grammar::{header_at, page_at, row_at};
-use crate::judge::{judge_page, judge_row, some_is_open};
+use crate::judge::{judge_page, some_is_open};
 use crate::points::ArcList;
+use crate::take::take_row;
 use crate::tally::Tally;
 use pl_event::{Arcs, Line, PageRuns, Record};
 use std::alloc::Global;
@@ -113,10 +114,9 @@ impl LogReader {
         let Some((what, has_arcs, after)) = row_at(rest, &mut self.arcs) else {
             return self.finish(rest);
         };
-        if let Some(cause) = judge_row(&self.tally, what, has_arcs, &self.arcs) {
+        if let Some(cause) = take_row(&mut self.tally, what, has_arcs, &self.arcs) {
             return Err(self.fault(cause));
         }
-        self.tally.add_row(what);
         self.pass(bytes, after);
         Ok(Some(Row { what, has_arcs }))
     }

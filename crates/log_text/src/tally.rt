@@ -57,7 +57,7 @@ impl Tally {
     }
 
     /// A record, which breaks no rule. Its arcs leave no trace.
-    #[inline]
+    #[inline(always)]
     pub fn add_row(&mut self, what: Record)
         ensures harts { self.new.harts ≡ self.old.harts }
         ensures keeps { (before : List Entry) (arcs : List Point) → Keeps self.old before → broken self.old.harts before (row what arcs) ≡ None

@@ -1,4 +1,5 @@
 pub mod Digits
 pub mod Fronts
 pub mod Reading
+pub mod ShortNumbers
 pub mod Spelling

@@ -99,10 +99,10 @@ not_zero c lt e =
 zero_more : (base d : ℕ) → 0 * base + d ≡ d
 zero_more base d = omega arith
 
-small_div : (base d : ℕ) → d < base → d / base ≡ 0
+pub small_div : (base d : ℕ) → d < base → d / base ≡ 0
 small_div base d lt = ap (λ (x : ℕ). x / base) (sym (zero_more base d)) ∙ div-mul-add 0 base d lt
 
-small_mod : (base d : ℕ) → d < base → d % base ≡ d
+pub small_mod : (base d : ℕ) → d < base → d % base ≡ d
 small_mod base d lt = ap (λ (x : ℕ). x % base) (sym (zero_more base d)) ∙ mod-mul-add 0 base d lt
 
 pub first_step : (base high c : ℕ) (cs : List ℕ) (n : ℕ) → read_from base high 0 (c ∷ cs) ≡ Some n → (digit c < base) × (digit c ≤ high) × (read_from base high (digit c) cs ≡ Some n)

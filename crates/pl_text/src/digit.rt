@@ -117,3 +117,20 @@ pub fn second_digit(value: u8, text: &[u8], base: u8) -> (u32, &[u8])
     let added = value * (u32::from(base) - 1) + u32::from(digit);
     (value + u32::from(more) * added, &text[usize::from(more)..])
 }
+
+/// The number of one digit or two in base 10 that the text begins with, without a leading zero, and what stands behind,
+/// which may be a digit again: that is for the caller to see.
+#[inline(always)]
+pub fn short_decimal_at(text: &[u8]) -> Option<(u32, &[u8])>
+    ensures found { IfSome result (λ r. (r.0 < 100) × (text.now ≡ decimal r.0 ++ r.1.now)) }
+    ensures every { (n : ℕ) (rest : List ℕ) → n < 100 → (BeginsWithDigit 10 rest → ⊥) → text.now ≡ decimal n ++ rest
+        → IsSomeAnd result (λ r. (r.0 ≡ n) × (r.1.now ≡ rest)) }
+{
+    let (first, rest) = first_byte(text)?;
+    let figure = digit_of(first, 10)?;
+    let digit = value_at(rest, 10);
+    let more = (digit < 10) & (figure != 0);
+    let figure = u32::from(figure);
+    let added = figure * 9 + u32::from(digit);
+    Some((figure + u32::from(more) * added, &rest[usize::from(more)..]))
+}

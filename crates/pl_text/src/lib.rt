@@ -11,5 +11,5 @@ mod number;
 mod tests;
 
 pub use bytes::{after_byte, after_word, first_byte};
-pub use digit::digit_at;
+pub use digit::{digit_at, short_decimal_at};
 pub use number::{decimal_at, hex_at, number_at, one_number, parse_number};

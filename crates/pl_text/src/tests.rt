@@ -1,5 +1,6 @@
 use crate::{
     after_byte, decimal_at, digit_at, first_byte, hex_at, number_at, one_number, parse_number,
+    short_decimal_at,
 };
 
 /// The number, and how many bytes stand behind it.
@@ -49,4 +50,12 @@ fn a_text_goes_on_behind_its_first_byte(rt: HostRuntime) {
     assert!(rt; after_byte(b"ab", b'b').is_none());
     assert!(rt; matches!(digit_at(b"70"), Some((7, [b'0']))));
     assert!(rt; digit_at(b"a").is_none());
+}
+
+#[test]
+fn a_short_number_has_two_digits_at_most(rt: HostRuntime) {
+    assert!(rt; matches!(short_decimal_at(b"07"), Some((0, [b'7']))));
+    assert!(rt; matches!(short_decimal_at(b"9"), Some((9, []))));
+    assert!(rt; matches!(short_decimal_at(b"331"), Some((33, [b'1']))));
+    assert!(rt; short_decimal_at(b"a1").is_none());
 }

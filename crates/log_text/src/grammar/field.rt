@@ -9,7 +9,7 @@ ghost use Rattle.log_text.specs.Reads.{Reads, IsAny, IsFrom, IsAccess, AreTwo, A
 
 use pl_base::{FaultCause, LoadWidth, StoreWidth};
 use pl_event::PageKind;
-use pl_text::{after_byte, after_word, decimal_at, digit_at, first_byte, hex_at};
+use pl_text::{after_byte, after_word, decimal_at, digit_at, first_byte, hex_at, short_decimal_at};
 
 /// A number of base 10.
 #[inline(always)]
@@ -33,7 +33,11 @@ pub fn count(text: &[u8], high: u32) -> Option<(u32, &[u8])>
 pub fn register(text: &[u8]) -> Option<(u8, &[u8])>
     ensures { Reads IsRegister number_word text.now result }
 {
-    let (n, rest) = number(text, 33)?;
+    let rest = after_byte(text, b' ')?;
+    let (n, rest) = short_decimal_at(rest)?;
+    if n > 33 {
+        return None;
+    }
     Some((n as u8, rest))
 }
 

@@ -1,4 +1,4 @@
-ghost use Rattle.std.specs.Prelude.{codes};
+ghost use Rattle.std.specs.Prelude.{◌∷◌, codes};
 ghost use Rattle.log_text.specs.Form.{HasFormFields};
 ghost use Rattle.log_text.specs.Spelling.{kind_words};
 ghost use Rattle.log_text.specs.Reads.{Reads, IsKindOf, operands};
@@ -8,15 +8,14 @@ use super::field::{
     three_registers, two_registers,
 };
 use pl_event::Kind;
-use pl_text::{after_byte, first_byte};
+use pl_text::first_byte;
 
 /// The kind of an event, each field in its range.
 #[inline(always)]
 pub fn kind_at(text: &[u8]) -> Option<(Kind, &[u8])>
-    ensures { Reads HasFormFields kind_words text.now result }
+    ensures { Reads HasFormFields kind_words (32 ∷ text.now) result }
 {
-    let rest = after_byte(text, b' ')?;
-    let (first, rest) = first_byte(rest)?;
+    let (first, rest) = first_byte(text)?;
     let (second, rest) = first_byte(rest)?;
     match (first, second) {
         (b'l', b'd') => load(rest),

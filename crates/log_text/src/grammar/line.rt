@@ -7,7 +7,7 @@ use super::arcs::point_at;
 use super::field::{hart, page_kind, pages};
 use super::kind::kind_at;
 use pl_event::{Event, PageRun, Record};
-use pl_text::after_word;
+use pl_text::{after_byte, after_word};
 
 /// The words of a record, without its arcs.
 #[inline(always)]
@@ -15,7 +15,8 @@ pub fn record(text: &[u8]) -> Option<(Record, &[u8])>
     ensures { Reads (IsRecordInForm most_read) record_words (32 ∷ text.now) result }
 {
     let (hart, rest) = hart(text)?;
-    if let Some(rest) = after_word(rest, b" ! ") {
+    let rest = after_byte(rest, b' ')?;
+    if let Some(rest) = after_word(rest, b"! ") {
         let (of, rest) = point_at(rest)?;
         return Some((Record::Notice { hart, of }, rest));
     }

@@ -3,7 +3,9 @@ use Rattle.std.proofs.Common.{◌≡◌, ℕ, ◌+◌, ◌-◌, ◌≤◌, List,
 use Rattle.std.specs.Prelude.{IfSome, ◌<◌}
 use Rattle.std.proofs.Math.Seq.{take-length}
 use Rattle.std.specs.Io.KnownBytes.{Consumes, Appends, IsAtEnd}
-use Rattle.pl_base.specs.Fronts.{TakesBetween}
+use Rattle.pl_base.specs.Fronts.{TakesBetween, TakesFront}
+use Rattle.pl_base.specs.declared.loops.ReadEnd.{ReadEnd}
+use Rattle.pl_base.specs.declared.loops.ReadEnd.TheVariants.{Fault, TooLong, NoMemory}
 use Rattle.std.proofs.lemmas.List.{take_at, append-nil, take-append-drop, length-append, length-take, length-drop, drop-drop}
 
 -- two pieces that were taken in turn are one
@@ -51,3 +53,9 @@ Consumes-whole (Some u) (Some v) xs end p = p ∙ ap (λ (t : List ℕ). xs ++ t
 -- two fronts in turn are one
 pub TakesBetween-then : (a b c : Option (List ℕ)) (xs ys : List ℕ) (least most : ℕ) → Consumes a b xs → Consumes b c ys → least ≤ length (xs ++ ys) → length (xs ++ ys) ≤ most → TakesBetween a c least most
 TakesBetween-then a b c xs ys least most p q long short = record { front = xs ++ ys; long = long; short = short; taken = Consumes-then a b c xs ys p q }
+
+-- what was taken before an error counts with what was taken at it
+pub TakesFront-then : (end : ReadEnd) (a b c : Option (List ℕ)) (xs : List ℕ) (spare limit : ℕ) → spare + length xs ≡ limit → Consumes a b xs → TakesFront end b c spare → TakesFront end a c limit
+TakesFront-then Fault a b c xs spare limit e p q = TakesBetween-then a b c xs q.front 0 limit p q.taken (omega arith) (simp length-append (omega (arith, q.short)))
+TakesFront-then TooLong a b c xs spare limit e p q = TakesBetween-then a b c xs q.front (limit + 1) (limit + 65536) p q.taken (simp length-append (omega (arith, q.long))) (simp length-append (omega (arith, q.short)))
+TakesFront-then NoMemory a b c xs spare limit e p q = TakesBetween-then a b c xs q.front 0 limit p q.taken (omega arith) (simp length-append (omega (arith, q.short)))

@@ -4,3 +4,5 @@ pub mod FaultPlan
 pub mod MemSource
 pub mod MemSink
 pub mod Widths
+pub mod Held
+pub mod LineBuffer

@@ -4,12 +4,16 @@
 //! A source and a sink are traits with two meanings each: the bytes that are left or were written,
 //! where they tell them, and a count of faults that never falls. So a caller knows after each call
 //! which bytes moved, and that nothing failed without a fault that was counted.
+//! `LineBuffer` reads a source piece by piece and hands out whole lines.
 //! `MemSource` and `MemSink` work over bytes in memory and fail at the calls that they are told;
 //! `CleanSource` and `CleanSink` never fail.
 #![tactic(auto)]
 
 mod clean;
 mod fault_plan;
+mod line_buffer;
+#[cfg(test)]
+mod line_buffer_tests;
 mod loops;
 mod mem_sink;
 mod mem_source;
@@ -20,6 +24,7 @@ mod unread;
 mod widths;
 
 pub use clean::{CleanSink, CleanSource};
+pub use line_buffer::LineBuffer;
 pub use loops::{ReadEnd, read_all, write_all_counted};
 pub use mem_sink::MemSink;
 pub use mem_source::MemSource;

@@ -6,8 +6,8 @@ ghost use Rattle.pl_base.specs.Fronts.{TakesFront, AppendsFront, AppendsLess};
 use crate::{Failed, Sink, Source};
 use std::alloc::{AllocError, Global};
 
-/// How many bytes `read_all` asks for at a time: 64 KiB.
-const PIECE: usize = 65536;
+/// How many bytes are asked for at a time, by `read_all` and at most by a `LineBuffer`: 64 KiB.
+pub(crate) const PIECE: usize = 65536;
 
 /// Why not all of a source was read.
 #[derive(Clone, Copy, Debug, PartialEq, Eq)]
@@ -32,7 +32,7 @@ impl From<AllocError> for ReadEnd {
 }
 
 /// Bytes to read into.
-fn zeros(alloc: Global, len: usize) -> Result<Vec<u8>, AllocError>
+pub(crate) fn zeros(alloc: Global, len: usize) -> Result<Vec<u8>, AllocError>
     ensures { IfOk result (λ bytes. vec_len bytes ≡ len) }
 {
     vec![in alloc; 0u8; len]

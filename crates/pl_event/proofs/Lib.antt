@@ -6,3 +6,4 @@ pub mod Places
 pub mod Sources
 pub mod RowLemmas
 pub mod StreamLemmas
+pub mod ToldFlow

@@ -9,4 +9,5 @@ pub mod Numbers
 pub mod Packing
 pub mod Records
 pub mod Rows
+pub mod Told
 pub mod Valid

@@ -121,25 +121,13 @@ fn pack_event(hart: u8, kind: Kind) -> Packed
             rd,
             rb,
             addr,
-        } => Packed::Ld {
-            hart,
-            width,
-            rd,
-            rb,
-            addr,
-        },
+        } => pack_load(hart, width, rd, rb, addr),
         Kind::St {
             width,
             rv,
             rb,
             addr,
-        } => Packed::St {
-            hart,
-            width,
-            rv,
-            rb,
-            addr,
-        },
+        } => pack_store(hart, width, rv, rb, addr),
         Kind::Op { rd, r1, r2 } => Packed::Op { hart, rd, r1, r2 },
         Kind::Mv { rd, rs } => Packed::Mv { hart, rd, rs },
         Kind::Im { rd } => Packed::Im { hart, rd },
@@ -157,11 +145,80 @@ fn pack_event(hart: u8, kind: Kind) -> Packed
     }
 }
 
+#[inline(always)]
+fn pack_load(hart: u8, width: LoadWidth, rd: u8, rb: u8, addr: u32) -> Packed
+    ensures { record_from result ≡ Record.Event (record { hart = hart; kind = Kind.Ld width rd rb addr }) }
+{
+    Packed::Ld {
+        hart,
+        width,
+        rd,
+        rb,
+        addr,
+    }
+}
+
+#[inline(always)]
+fn pack_store(hart: u8, width: StoreWidth, rv: u8, rb: u8, addr: u32) -> Packed
+    ensures { record_from result ≡ Record.Event (record { hart = hart; kind = Kind.St width rv rb addr }) }
+{
+    Packed::St {
+        hart,
+        width,
+        rv,
+        rb,
+        addr,
+    }
+}
+
 #[inline]
 fn event(hart: u8, kind: Kind) -> Record
     ensures { result ≡ Record.Event (record { hart = hart; kind = kind }) }
 {
     Record::Event(Event { hart, kind })
+}
+
+#[inline(always)]
+fn load(hart: u8, width: LoadWidth, rd: u8, rb: u8, addr: u32) -> Record
+    ensures { result ≡ Record.Event (record { hart = hart; kind = Kind.Ld width rd rb addr }) }
+{
+    event(
+        hart,
+        Kind::Ld {
+            width,
+            rd,
+            rb,
+            addr,
+        },
+    )
+}
+
+#[inline(always)]
+fn store(hart: u8, width: StoreWidth, rv: u8, rb: u8, addr: u32) -> Record
+    ensures { result ≡ Record.Event (record { hart = hart; kind = Kind.St width rv rb addr }) }
+{
+    event(
+        hart,
+        Kind::St {
+            width,
+            rv,
+            rb,
+            addr,
+        },
+    )
+}
+
+#[inline(always)]
+fn notice(hart: u8, of_hart: u8, number: u32) -> Record
+    ensures { result ≡ Record.Notice hart (record { hart = of_hart; number = number }) }
+{
+    Record::Notice {
+        hart,
+        of: Point {
+            hart: of_hart,
+            number,
+        },
+    }
 }
 
 /// The record that was packed.
@@ -176,30 +233,14 @@ pub fn unpack(packed: Packed) -> Record
             rd,
             rb,
             addr,
-        } => event(
-            hart,
-            Kind::Ld {
-                width,
-                rd,
-                rb,
-                addr,
-            },
-        ),
+        } => load(hart, width, rd, rb, addr),
         Packed::St {
             hart,
             width,
             rv,
             rb,
             addr,
-        } => event(
-            hart,
-            Kind::St {
-                width,
-                rv,
-                rb,
-                addr,
-            },
-        ),
+        } => store(hart, width, rv, rb, addr),
         Packed::Op { hart, rd, r1, r2 } => event(hart, Kind::Op { rd, r1, r2 }),
         Packed::Mv { hart, rd, rs } => event(hart, Kind::Mv { rd, rs }),
         Packed::Im { hart, rd } => event(hart, Kind::Im { rd }),
@@ -218,12 +259,6 @@ pub fn unpack(packed: Packed) -> Record
             hart,
             of_hart,
             number,
-        } => Record::Notice {
-            hart,
-            of: Point {
-                hart: of_hart,
-                number,
-            },
-        },
+        } => notice(hart, of_hart, number),
     }
 }

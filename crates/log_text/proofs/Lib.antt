@@ -1,5 +1,6 @@
 mod ArcReading
 mod Chain
+mod CountedLog
 mod KindFields
 mod LineTexts
 mod PointLemmas
@@ -7,11 +8,16 @@ mod ReadLemmas
 mod ReaderLemmas
 mod RowLaws
 mod Same
+mod TextLength
 mod Widths
 pub mod AddedLines
 pub mod ArcLemmas
 pub mod ArcRules
+pub mod Flow
 pub mod PageLemmas
 pub mod RuleLemmas
 pub mod TallyLemmas
 pub mod WriteLemmas
+pub mod WholeLines
+pub mod Fronts
+pub mod StreamLemmas

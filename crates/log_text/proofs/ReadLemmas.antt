@@ -18,7 +18,7 @@ use Rattle.log_text.specs.WellFormed.{broken, Continues, IsLawful, IsWellFormed,
 use Rattle.log_text.proofs.Same.{IsWhole, log-same}
 
 -- where a list with one more element is parted
-parted_push : {X : Type 0} (xs : List X) (x : X) (before : List X) (y : X) (after : List X) → xs ++ x ∷ [] ≡ before ++ y ∷ after
+pub parted_push : {X : Type 0} (xs : List X) (x : X) (before : List X) (y : X) (after : List X) → xs ++ x ∷ [] ≡ before ++ y ∷ after
     → ((xs ≡ before) × (x ≡ y)) ⊎ ((rest : List X) × (xs ≡ before ++ y ∷ rest))
 parted_push [] x [] y after e = inl (refl, cc)
 parted_push [] x (b ∷ []) y after e = absurd cc
@@ -51,12 +51,6 @@ lawful-push harts entries e lawful last before after x parted =
 
 pub text_some : (e : Entry) (after : List ℕ) → 0 < length (line_text (entry_text e) ++ after)
 text_some e after = omega (arith, length-append (line_text (entry_text e)) after, length-append (entry_text e) (10 ∷ []))
-
-pub begins-longer : (bytes rest : List ℕ) (e : Entry) → Begins bytes e rest → length rest < length bytes
-begins-longer bytes rest e begins = omega (arith, ap length begins.spelled, length-append (line_text (entry_text e)) rest, length-append (entry_text e) (10 ∷ []))
-
-pub header-longer : (bytes rest : List ℕ) (harts block : ℕ) → BeginsWithHeader bytes harts block rest → length rest < length bytes
-header-longer bytes rest harts block header = omega (arith, ap length header.spelled, length-append (line_text (header_text harts block)) rest, length-append (header_text harts block) (10 ∷ []))
 
 texts-push : (entries : List Entry) (e : Entry) (after : List ℕ) → entries_text entries ++ (line_text (entry_text e) ++ after) ≡ entries_text (entries ++ e ∷ []) ++ after
 texts-push entries e after =

@@ -9,3 +9,4 @@ pub mod Spelling
 pub mod Tally
 pub mod WellFormed
 pub mod Writing
+pub mod Streaming

@@ -1,12 +1,13 @@
 -- How far the bytes of a log were read.
-use Rattle.std.specs.Prelude.{◌≡◌, ℕ, ◌+◌, ◌<◌, ◌≤◌, List, [], ◌∷◌, ◌++◌, length, drop, replicate, Bool, true, false, Option, Some, None, All, Result, Ok, Err}
+use Rattle.std.specs.Prelude.{◌≡◌, ℕ, ◌+◌, ◌^◌, ◌<◌, ◌≤◌, List, [], ◌∷◌, ◌++◌, length, replicate, Bool, true, false, Option, Some, None, All, Result, Ok, Err}
+use Rattle.pl_base.specs.LineBuffer.{ends_line}
 use Rattle.pl_event.specs.declared.log.Line.{Line}
 use Rattle.pl_event.specs.declared.log.Log.{Log}
 use Rattle.pl_event.specs.declared.log.PageRun.{PageRun}
 use Rattle.log_text.specs.declared.cause.LogFault.{LogFault}
 use Rattle.log_text.specs.declared.points.ArcList.{ArcList}
 use Rattle.log_text.specs.declared.reader.LogReader.{LogReader}
-use Rattle.log_text.specs.declared.reader.Opening.{Opening}
+use Rattle.log_text.specs.declared.reader.Header.{Header}
 use Rattle.log_text.specs.declared.reader.Row.{Row}
 use Rattle.std.specs.List.{list_any}
 use Rattle.log_text.specs.Arcs.{arcs_in}
@@ -35,21 +36,31 @@ pub record IsRead (bytes rest : List ℕ) (log : Log) : Type 0 where
   pub lawful : IsLawful rules_in_order most_read log.harts (entries_of log)
   pub only : (other : Log) → IsLogText bytes other → IsAlike log.harts log.block (entries_of log) rest other
 
--- the reader has read the lines of the log
-pub record IsReadBy (reader : LogReader) (bytes : List ℕ) (log : Log) : Type 0 where
-  pub read : IsRead bytes (drop reader.at bytes) log
+-- the reader has read the lines of the log, and the rest stands behind them
+pub record IsReadBy (reader : LogReader) (bytes rest : List ℕ) (log : Log) : Type 0 where
+  pub read : IsRead bytes rest log
   pub keeps : Keeps reader.tally (entries_of log)
   pub harts : reader.tally.harts ≡ log.harts
   pub line : reader.line ≡ length (entries_of log) + 2
 
 -- and all runs of pages
-pub record HasRead (reader : LogReader) (bytes : List ℕ) (log : Log) : Type 0 where
-  pub by : IsReadBy reader bytes log
-  pub begun : list_any is_row (entries_of log) ≡ false → BeginsWithNoPage (drop reader.at bytes)
+pub record HasRead (reader : LogReader) (bytes rest : List ℕ) (log : Log) : Type 0 where
+  pub by : IsReadBy reader bytes rest log
+  pub begun : list_any is_row (entries_of log) ≡ false → BeginsWithNoPage rest
 
--- the log of a header and its pages, with no record yet
-abbrev pub opened : Opening → Log
-opened opening = record { harts = opening.harts; block = opening.block; pages = opening.pages; lines = [] }
+-- the text holds the next line whole: a line feed ends the text, or nothing is to come behind it
+pub data HoldsLine (text later : List ℕ) : Type 0 where
+  whole_lines : 0 < length text → ends_line text ≡ true → HoldsLine text later
+  last_bytes : later ≡ [] → HoldsLine text later
+
+-- and so few bytes stand before what is to come that their lines can be counted
+pub record HoldsNext (bytes text later : List ℕ) : Type 0 where
+  pub line : HoldsLine text later
+  pub few : length bytes < 2 ^ 31 + length later
+
+-- the log of a header, with no line behind it yet
+abbrev pub opened : Header → Log
+opened header = record { harts = header.harts; block = header.block; pages = []; lines = [] }
 
 -- the line of the row that the reader has read last
 abbrev pub arcs_of : Bool → ArcList → List (Option ℕ)
@@ -68,8 +79,8 @@ abbrev pub with_pages : Log → PageRun → Log
 with_pages log run = record log { pages = log.pages ++ run ∷ [] }
 
 -- the log of the lines so far and that one, which the reader has read then
-pub record ReadsRow (reader : LogReader) (bytes : List ℕ) (log : Log) (row : Row) : Type 0 where
-  pub read : HasRead reader bytes (with_line log (line_of reader row))
+pub record ReadsRow (reader : LogReader) (bytes rest : List ℕ) (log : Log) (row : Row) : Type 0 where
+  pub read : HasRead reader bytes rest (with_line log (line_of reader row))
   pub valid : IsValidLine log.harts (line_of reader row)
   pub room : length log.lines < 2000000
 
@@ -83,13 +94,13 @@ pub record IsNoLog (bytes : List ℕ) (fault : LogFault) : Type 0 where
   pub first : IsFirstFault bytes fault
   pub none : (log : Log) → IsLogText bytes log → ⊥
 
--- what holds of a row, of the end and of a fault
-abbrev pub IfRow : Result (Option Row) LogFault → (Row → Type 0) → Type 0
-IfRow (Ok (Some row)) P = P row
-IfRow (Ok None) P = Unit {0}
-IfRow (Err fault) P = Unit {0}
+-- what holds of a line that was found, and where none was
+abbrev pub IfFound : {T : Type 0} → Result (Option T) LogFault → (T → Type 0) → Type 0
+IfFound (Ok (Some line)) P = P line
+IfFound (Ok None) P = Unit {0}
+IfFound (Err fault) P = Unit {0}
 
-abbrev pub IfEnd : Result (Option Row) LogFault → Type 0 → Type 0
-IfEnd (Ok (Some row)) P = Unit {0}
-IfEnd (Ok None) P = P
-IfEnd (Err fault) P = Unit {0}
+abbrev pub IfMissed : {T : Type 0} → Result (Option T) LogFault → Type 0 → Type 0
+IfMissed (Ok (Some line)) P = Unit {0}
+IfMissed (Ok None) P = P
+IfMissed (Err fault) P = Unit {0}

@@ -1,5 +1,5 @@
 -- Which lines may follow which, and the first line that may not.
-use Rattle.std.specs.Prelude.{◌≡◌, ℕ, ◌+◌, ◌%◌, ◌^◌, ◌<◌, ◌≤◌, ◌⊎◌, Bool, true, false, not, ◌&&◌, ◌||◌, ◌==◌, nat_lt, nat_le, List, [], ◌∷◌, ◌++◌, length, fold, count_by, find, All, Option, Some, None, Result, Ok, Err}
+use Rattle.std.specs.Prelude.{◌≡◌, ℕ, ◌+◌, ◌%◌, ◌^◌, ◌<◌, ◌≤◌, ◌⊎◌, Bool, true, false, not, ◌&&◌, ◌||◌, ◌==◌, nat_lt, nat_le, List, [], ◌∷◌, ◌++◌, length, fold, count_by, filter, find, All, Option, Some, None, Result, Ok, Err}
 use Rattle.std.specs.List.{list_any}
 use Rattle.pl_base.specs.Widths.{load_bytes, store_bytes}
 use Rattle.pl_event.specs.declared.event.Kind.{Kind}
@@ -187,9 +187,13 @@ rules_in_order = Page ∷ Records ∷ Hart ∷ Ended ∷ Open ∷ Arc ∷ Notice
 abbrev pub rules_of_fields : List LogCause
 rules_of_fields = Access ∷ Range ∷ Map ∷ []
 
--- those of a log of any length
+-- those of a log of any length: all but the one that counts records
+abbrev pub is_of_any_length : LogCause → Bool
+is_of_any_length Records = false
+is_of_any_length _ = true
+
 abbrev pub rules_of_any_length : List LogCause
-rules_of_any_length = Page ∷ Hart ∷ Ended ∷ Open ∷ Arc ∷ Notice ∷ Access ∷ Range ∷ Map ∷ []
+rules_of_any_length = filter is_of_any_length rules_in_order
 
 -- the first rule that a line breaks
 abbrev pub broken : ℕ → List Entry → Entry → Option LogCause

@@ -163,7 +163,7 @@ fn is_to_come(tally: &Tally, of: Point) -> bool
     tally.numbers[usize::from(of.hart % 8)] < of.number
 }
 
-#[inline]
+#[inline(always)]
 fn has_bad_arcs(tally: &Tally, what: Record, has_arcs: bool, list: &ArcList) -> bool
     ensures { (before : List Entry) (arcs : List Point) → Keeps tally.now before → ShowsPoints has_arcs list.now arcs → breaks_hart tally.now.harts what arcs ≡ false
         → result ≡ breaks_arc before what arcs }
@@ -194,7 +194,7 @@ fn is_arc_bad(arc: u32, is_own: bool, come: u32) -> bool
 }
 
 /// Whether a notice is of the own hart or of a record that has come, or a record that is named is no alert event.
-#[inline]
+#[inline(always)]
 fn is_bad_record(tally: &Tally, what: Record) -> bool
     ensures { (before : List Entry) → Keeps tally.now before → names_past tally.now.harts what ≡ false → result ≡ breaks_notice before what }
 {

@@ -1,22 +1,28 @@
 //! The text of a log, read line by line.
 //!
 //! What is left of the bytes begins with a line in form, or with none; the rules then judge that line by the lines
-//! before it. The reader keeps the log so far and beside it the few numbers that the rules ask for, so a line is
-//! judged without a look back, and memory is taken only for the log itself.
+//! before it. The reader keeps a tally of the lines so far, the few numbers that the rules ask for, so a line is judged
+//! without a look back; it takes no memory for a line.
 #![tactic(auto)]
 
 mod cause;
 mod grammar;
 mod judge;
+mod laws;
 mod page_set;
 mod points;
 mod read;
 mod reader;
+mod stream;
 mod take;
 mod tally;
+#[cfg(test)]
+mod tests;
 mod write;
 
 pub use cause::{LogCause, LogFault, LogRefused};
+pub use laws::log_flow;
 pub use read::read_log;
-pub use reader::{LogReader, Opening, Row};
+pub use reader::Row;
+pub use stream::{LogEnd, LogStream, Opening};
 pub use write::write_log;

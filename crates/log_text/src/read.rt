@@ -1,12 +1,12 @@
-ghost use Rattle.std.specs.Prelude.{◌≡◌, ◌<◌, ◌≤◌, ◌^◌, Ok, true, false, ◌++◌, ◌∷◌, [], length, IfOk, OnOk};
+ghost use Rattle.std.specs.Prelude.{◌≡◌, ◌<◌, ◌≤◌, ◌^◌, ◌++◌, ◌∷◌, [], List, ℕ, length, drop, IfOk, OnOk};
 ghost use Rattle.pl_event.specs.declared.log.Log.{Log};
 ghost use Rattle.log_text.specs.Parts.{HasValidParts};
-ghost use Rattle.log_text.specs.Reading.{HasRead, IsOnly, IsNoLog, opened, line_of};
+ghost use Rattle.log_text.specs.Reading.{HasRead, IsReadBy, IsOnly, IsNoLog, opened, line_of};
 ghost use Rattle.log_text.specs.WellFormed.{IsLogText, IsFirstFault, IfFault};
 
 use crate::cause::LogRefused;
-use crate::reader::{LogReader, Opening, Row};
-use pl_event::{Lines, Log};
+use crate::reader::{Header, LogReader, Row};
+use pl_event::{Lines, Log, PageRuns};
 use std::alloc::{AllocError, Global};
 
 /// The log that the bytes spell, or the first line that breaks a rule and the first rule that it breaks. The text of a
@@ -20,73 +20,69 @@ pub fn read_log(alloc: Global, bytes: &[u8]) -> Result<Log, LogRefused>
     ensures none { IfFault result (λ _. (log : Log) → IsLogText bytes.now log → ⊥) }
 {
     match LogReader::open(alloc, bytes) {
-        Ok(opening) => read_records(alloc, opening, bytes),
+        Ok(header) => read_opened(alloc, header, bytes),
         Err(refused) => Err(refused),
     }
 }
 
-/// The log whose header and pages were read.
-fn read_records(alloc: Global, opening: Opening, bytes: &[u8]) -> Result<Log, LogRefused>
+/// The log whose header was read.
+fn read_opened(alloc: Global, header: Header, bytes: &[u8]) -> Result<Log, LogRefused>
     requires few { length bytes.now < 2 ^ 31 }
-    requires start { opening.reader.at ≤ length bytes.now }
-    requires read { HasRead opening.reader bytes.now (opened opening) }
+    requires inside { header.len ≤ length bytes.now }
+    requires read { IsReadBy header.reader bytes.now (drop header.len bytes.now ++ []) (opened header) }
     ensures ok { IfOk result (IsOnly bytes.now) }
     ensures fault { IfFault result (IsNoLog bytes.now) }
 {
-    let Opening {
+    let Header {
+        harts,
+        block,
+        len,
+        mut reader,
+    } = header;
+    let (_, text) = bytes.split_at(len);
+    let mut pages = PageRuns::new(alloc);
+    let rest = read_pages(&mut reader, text, &mut pages)?;
+    let mut lines = Lines::new(alloc);
+    read_lines(&mut reader, rest, &mut lines)?;
+    Ok(Log {
         harts,
         block,
         pages,
-        reader,
-    } = opening;
-    match read_lines(alloc, reader, bytes) {
-        Ok(lines) => Ok(Log {
-            harts,
-            block,
-            pages,
-            lines,
-        }),
-        Err(refused) => Err(refused),
-    }
+        lines,
+    })
 }
 
-/// The record lines behind the pages.
-fn read_lines(alloc: Global, mut reader: LogReader, bytes: &[u8]) -> Result<Lines, LogRefused>
-    requires few { length bytes.now < 2 ^ 31 }
-    requires start { reader.at ≤ length bytes.now }
-    ensures ok { (log : Log) → log.lines ≡ [] → HasRead reader bytes.now log → IfOk result (λ lines. IsOnly bytes.now (record log { lines = lines })) }
-    ensures fault { (log : Log) → log.lines ≡ [] → HasRead reader bytes.now log → IfFault result (IsNoLog bytes.now) }
+/// Reads the runs of pages that begin the text, and gives what stands behind them.
+fn read_pages<'a>(
+    reader: &mut LogReader,
+    text: &'a [u8],
+    pages: &mut PageRuns,
+) -> Result<&'a [u8], LogRefused>
+    ensures ok { (bytes : List ℕ) (log : Log) → length bytes < 2 ^ 31 → log.lines ≡ [] → log.pages ≡ pages.old → IsReadBy reader.old bytes (text.now ++ []) log
+        → IfOk result (λ rest. HasRead reader.new bytes (rest.now ++ []) (record log { pages = pages.new })) }
+    ensures fault { (bytes : List ℕ) (log : Log) → length bytes < 2 ^ 31 → log.lines ≡ [] → log.pages ≡ pages.old → IsReadBy reader.old bytes (text.now ++ []) log → IfFault result (IsNoLog bytes) }
 {
-    let mut lines = Lines::new(alloc);
-    let mut reading = true;
-    'lines: while reading {
-        match read_line(&mut reader, bytes, &mut lines) {
-            Ok(more) => reading = more,
-            Err(refused) => return Err(refused),
-        }
+    let mut rest = text;
+    'pages: while let Some(found) = reader.next_pages(rest)? {
+        pages.push(found.run)?;
+        let (_, behind) = rest.split_at(found.len);
+        rest = behind;
     }
-    Ok(lines)
+    Ok(rest)
 }
 
-/// Reads one more line; false at the end of the log.
-#[inline]
-fn read_line(reader: &mut LogReader, bytes: &[u8], lines: &mut Lines) -> Result<bool, LogRefused>
-    requires few { length bytes.now < 2 ^ 31 }
-    requires start { reader.old.at ≤ length bytes.now }
-    ensures inside { reader.new.at ≤ length bytes.now }
-    ensures further { result ≡ Ok true → reader.old.at < reader.new.at }
-    ensures row { (log : Log) → log.lines ≡ lines.old → HasRead reader.old bytes.now log → result ≡ Ok true → HasRead reader.new bytes.now (record log { lines = lines.new }) }
-    ensures end { (log : Log) → log.lines ≡ lines.old → HasRead reader.old bytes.now log → result ≡ Ok false → IsOnly bytes.now (record log { lines = lines.new }) }
-    ensures fault { (log : Log) → log.lines ≡ lines.old → HasRead reader.old bytes.now log → IfFault result (IsNoLog bytes.now) }
+/// Reads the record lines up to the end of the text.
+fn read_lines(reader: &mut LogReader, text: &[u8], lines: &mut Lines) -> Result<(), LogRefused>
+    ensures ok { (bytes : List ℕ) (log : Log) → length bytes < 2 ^ 31 → log.lines ≡ lines.old → HasRead reader.old bytes (text.now ++ []) log → OnOk result (IsOnly bytes (record log { lines = lines.new })) }
+    ensures fault { (bytes : List ℕ) (log : Log) → length bytes < 2 ^ 31 → log.lines ≡ lines.old → HasRead reader.old bytes (text.now ++ []) log → IfFault result (IsNoLog bytes) }
 {
-    match reader.next(bytes) {
-        Ok(Some(row)) => {
-            push(lines, reader, &row)?;
-            Ok(true)
-        }
-        Ok(None) => Ok(false),
-        Err(fault) => Err(LogRefused::Fault(fault)),
+    let mut rest = text;
+    'lines: while let Some(row) = reader.next(rest)? {
+        push(lines, reader, &row)?;
+        let (_, behind) = rest.split_at(row.len);
+        rest = behind;
     }
+    Ok(())
 }
 
 /// One more line.

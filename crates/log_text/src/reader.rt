@@ -1,11 +1,13 @@
-//! A log read line by line: what is left of its bytes begins with a line in form, or with none, and the rules judge that
-//! line by a tally of the lines before it.
+//! A log read line by line: a text begins with a line in form, or with none, and the rules judge that line by a tally of
+//! the lines before it.
+//!
+//! The text need not be all that is to come: it has to hold the next line whole.
 
-ghost use Rattle.std.specs.Prelude.{◌≡◌, ◌≤◌, ◌<◌, ◌+◌, All, ◌-◌, ◌%◌, ◌^◌, ℕ, List, [], length, drop, IfErr, IfOk};
+ghost use Rattle.std.specs.Prelude.{◌≡◌, ◌≤◌, ◌<◌, ◌+◌, ◌++◌, ◌%◌, ◌^◌, ℕ, List, [], length, drop, IfErr, IfOk};
 ghost use Rattle.pl_event.specs.declared.log.Log.{Log};
-ghost use Rattle.log_text.specs.Begins.{BeginsWithNoRow};
+ghost use Rattle.log_text.specs.Begins.{BeginsWithNoRow, BeginsWithNoPage};
 ghost use Rattle.log_text.specs.WellFormed.{IfFault};
-ghost use Rattle.log_text.specs.Reading.{HasRead, IsReadBy, ReadsRow, IsOnly, IsNoLog, IfRow, IfEnd, opened, line_of};
+ghost use Rattle.log_text.specs.Reading.{HasRead, IsReadBy, HoldsLine, HoldsNext, ReadsRow, IsOnly, IsNoLog, IfFound, IfMissed, opened, with_pages, line_of};
 
 use crate::cause::{LogCause, LogFault, LogRefused};
 use crate::grammar::{header_at, page_at, row_at};
@@ -13,7 +15,7 @@ use crate::judge::{judge_page, some_is_open};
 use crate::points::ArcList;
 use crate::take::take_row;
 use crate::tally::Tally;
-use pl_event::{Arcs, Line, PageRuns, Record};
+use pl_event::{Arcs, Line, PageRun, Record};
 use std::alloc::Global;
 
 /// A reader of a log, between two lines.
@@ -24,101 +26,104 @@ pub struct LogReader {
     arcs: ArcList,
     /// The number of the next line, counted from 1.
     line: u32,
-    /// How many bytes were read.
-    at: usize,
 }
 
-/// The header and the pages of a log, and the reader behind them.
+/// The header of a log, how many bytes it has, and the reader behind it.
 #[derive(Drop)]
-pub struct Opening {
+pub struct Header {
     pub harts: u8,
     pub block: u8,
-    pub pages: PageRuns,
+    pub len: usize,
     pub reader: LogReader,
 }
 
-/// The record of a line; its arcs, if it has some, stay with the reader until the next line is read.
+/// The run of pages of a line, and how many bytes the line has.
+#[derive(Clone, Copy)]
+pub struct Pages {
+    pub run: PageRun,
+    pub len: usize,
+}
+
+/// The record of a line, and how many bytes the line has. Its arcs, if it has some, stay with the reader until the next
+/// line is read.
 #[derive(Clone, Copy)]
 pub struct Row {
     pub what: Record,
     pub has_arcs: bool,
+    pub len: usize,
 }
 
 impl LogReader {
-    /// Reads the header and the pages of a log.
-    pub fn open(alloc: Global, bytes: &[u8]) -> Result<Opening, LogRefused>
-        requires { length bytes.now < 2 ^ 31 }
-        ensures inside { IfOk result (λ opening. opening.reader.at ≤ length bytes.now) }
-        ensures harts { IfOk result (λ opening. (1 ≤ opening.harts) × (opening.harts ≤ 8)) }
-        ensures pages { IfOk result (λ opening. All (λ run. run.first + run.count ≤ 4096) opening.pages) }
-        ensures ok { IfOk result (λ opening. HasRead opening.reader bytes.now (opened opening)) }
-        ensures fault { IfFault result (IsNoLog bytes.now) }
+    /// Reads the header of a log.
+    pub fn open(alloc: Global, text: &[u8]) -> Result<Header, LogRefused>
+        ensures harts { IfOk result (λ header. (1 ≤ header.harts) × (header.harts ≤ 8)) }
+        ensures len { IfOk result (λ header. (0 < header.len) × (header.len ≤ length text.now)) }
+        ensures ok { (later : List ℕ) → HoldsLine text.now later → IfOk result (λ header. IsReadBy header.reader (text.now ++ later) (drop header.len text.now ++ later) (opened header)) }
+        ensures fault { (later : List ℕ) → HoldsLine text.now later → IfFault result (IsNoLog (text.now ++ later)) }
     {
-        let Some((harts, block, rest)) = header_at(bytes) else {
+        let Some((harts, block, rest)) = header_at(text) else {
             return Err(LogRefused::Fault(LogFault {
                 line: 1,
                 cause: LogCause::Header,
             }));
         };
-        let mut reader = LogReader {
+        let reader = LogReader {
             tally: Tally::new(alloc, harts)?,
             arcs: ArcList::new(),
             line: 2,
-            at: bytes.len() - rest.len(),
         };
-        match reader.read_pages(alloc, bytes) {
-            Ok(pages) => Ok(Opening {
-                harts,
-                block,
-                pages,
-                reader,
-            }),
-            Err(refused) => Err(refused),
-        }
+        Ok(Header {
+            harts,
+            block,
+            len: text.len() - rest.len(),
+            reader,
+        })
     }
 
-    /// Reads the runs of pages behind the header.
-    fn read_pages(&mut self, alloc: Global, bytes: &[u8]) -> Result<PageRuns, LogRefused>
-        requires few { length bytes.now < 2 ^ 31 }
-        requires start { self.old.at ≤ length bytes.now }
-        ensures inside { self.new.at ≤ length bytes.now }
-        ensures pages { (log : Log) → log.pages ≡ [] → log.lines ≡ [] → IsReadBy self.old bytes.now log → IfOk result (λ pages. HasRead self.new bytes.now (record log { pages = pages })) }
-        ensures fault { (log : Log) → log.pages ≡ [] → log.lines ≡ [] → IsReadBy self.old bytes.now log → IfFault result (IsNoLog bytes.now) }
+    /// The next run of pages, or none where no line of one begins the text.
+    pub fn next_pages(&mut self, text: &[u8]) -> Result<Option<Pages>, LogFault>
+        ensures len { IfFound result (λ pages. (0 < pages.len) × (pages.len ≤ length text.now)) }
+        ensures found { (bytes later : List ℕ) (log : Log) → log.lines ≡ [] → HoldsNext bytes text.now later → IsReadBy self.old bytes (text.now ++ later) log
+            → IfFound result (λ pages. IsReadBy self.new bytes (drop pages.len text.now ++ later) (with_pages log pages.run)) }
+        ensures missed { (bytes later : List ℕ) (log : Log) → HoldsNext bytes text.now later → IsReadBy self.old bytes (text.now ++ later) log → IfMissed result (HasRead self.new bytes (text.now ++ later) log) }
+        ensures fault { (bytes later : List ℕ) (log : Log) → HoldsNext bytes text.now later → IsReadBy self.old bytes (text.now ++ later) log → IfErr result (IsNoLog bytes) }
     {
-        let mut pages = PageRuns::new(alloc);
-        let (_, mut rest) = bytes.split_at(self.at);
-        'pages: while let Some((run, after)) = page_at(rest) {
-            if let Some(cause) = judge_page(&self.tally, run) {
-                return Err(LogRefused::Fault(self.fault(cause)));
-            }
-            pages.push(run)?;
-            self.tally.add_page(run);
-            self.pass(bytes, after);
-            rest = after;
+        let Some((run, rest)) = page_at(text) else {
+            return Ok(None);
+        };
+        if let Some(cause) = judge_page(&self.tally, run) {
+            return Err(self.fault(cause));
         }
-        Ok(pages)
+        self.tally.add_page(run);
+        self.count_line();
+        Ok(Some(Pages {
+            run,
+            len: text.len() - rest.len(),
+        }))
     }
 
     /// The next record line, or none at the end of a log. After a fault nothing is said of the reader.
-    #[inline]
-    pub fn next(&mut self, bytes: &[u8]) -> Result<Option<Row>, LogFault>
-        requires few { length bytes.now < 2 ^ 31 }
-        requires start { self.old.at ≤ length bytes.now }
-        ensures inside { self.new.at ≤ length bytes.now }
-        ensures further { IfRow result (λ _. self.old.at < self.new.at) }
-        ensures row { (log : Log) → HasRead self.old bytes.now log → IfRow result (ReadsRow self.new bytes.now log) }
-        ensures end { (log : Log) → HasRead self.old bytes.now log → IfEnd result (IsOnly bytes.now log) }
-        ensures fault { (log : Log) → HasRead self.old bytes.now log → IfErr result (IsNoLog bytes.now) }
+    #[inline(always)]
+    pub fn next(&mut self, text: &[u8]) -> Result<Option<Row>, LogFault>
+        ensures len { IfFound result (λ row. (0 < row.len) × (row.len ≤ length text.now)) }
+        ensures empty { IfMissed result (text.now ≡ []) }
+        ensures row { (bytes later : List ℕ) (log : Log) → HoldsNext bytes text.now later → HasRead self.old bytes (text.now ++ later) log
+            → IfFound result (λ row. ReadsRow self.new bytes (drop row.len text.now ++ later) log row) }
+        ensures end { (bytes later : List ℕ) (log : Log) → HoldsNext bytes text.now later → HasRead self.old bytes (text.now ++ later) log → IfMissed result (IsOnly bytes log) }
+        ensures fault { (bytes later : List ℕ) (log : Log) → HoldsNext bytes text.now later → HasRead self.old bytes (text.now ++ later) log → IfErr result (IsNoLog bytes) }
     {
-        let (_, rest) = bytes.split_at(self.at);
-        let Some((what, has_arcs, after)) = row_at(rest, &mut self.arcs) else {
-            return self.finish(rest);
+        let Some((what, has_arcs, rest)) = row_at(text, &mut self.arcs) else {
+            return self.finish(text);
         };
         if let Some(cause) = take_row(&mut self.tally, what, has_arcs, &self.arcs) {
             return Err(self.fault(cause));
         }
-        self.pass(bytes, after);
-        Ok(Some(Row { what, has_arcs }))
+        self.count_line();
+        Ok(Some(Row {
+            what,
+            has_arcs,
+            len: text.len() - rest.len(),
+        }))
     }
 
     /// The row that was read last, with its arcs.
@@ -135,30 +140,29 @@ impl LogReader {
         }
     }
 
-    /// Takes note that a line was read up to what stands behind it.
-    #[inline]
-    fn pass(&mut self, bytes: &[u8], after: &[u8])
-        requires { length after.now ≤ length bytes.now }
-        ensures { self.new ≡ record self.old { line = (self.old.line + 1) % 2 ^ 32; at = length bytes.now - length after.now } }
+    /// Takes note that one more line was read.
+    #[inline(always)]
+    fn count_line(&mut self)
+        ensures { self.new ≡ record self.old { line = (self.old.line + 1) % 2 ^ 32 } }
     {
         self.line = self.line.wrapping_add(1);
-        self.at = bytes.len() - after.len();
     }
 
-    /// What it means that no record line begins the rest: the end, a run of pages behind a record, or no line.
-    fn finish(&self, rest: &[u8]) -> Result<Option<Row>, LogFault>
-        ensures none { IfRow result (λ _. ⊥) }
-        ensures end { (bytes : List ℕ) (log : Log) → HasRead self.now bytes log → rest.now ≡ drop self.now.at bytes → BeginsWithNoRow rest.now → IfEnd result (IsOnly bytes log) }
-        ensures fault { (bytes : List ℕ) (log : Log) → length bytes < 2 ^ 31 → HasRead self.now bytes log → rest.now ≡ drop self.now.at bytes → BeginsWithNoRow rest.now → IfErr result (IsNoLog bytes) }
+    /// What it means that no record line begins the text: the end, a run of pages behind a record, or no line.
+    fn finish(&self, text: &[u8]) -> Result<Option<Row>, LogFault>
+        ensures none { IfFound result (λ _. ⊥) }
+        ensures empty { IfMissed result (text.now ≡ []) }
+        ensures end { (bytes later : List ℕ) (log : Log) → HoldsNext bytes text.now later → HasRead self.now bytes (text.now ++ later) log → IfMissed result (IsOnly bytes log) }
+        ensures fault { (bytes later : List ℕ) (log : Log) → HoldsNext bytes text.now later → HasRead self.now bytes (text.now ++ later) log → BeginsWithNoRow text.now → IfErr result (IsNoLog bytes) }
     {
-        if rest.is_empty() {
+        if text.is_empty() {
             return if some_is_open(&self.tally) {
                 Err(self.fault(LogCause::Open))
             } else {
                 Ok(None)
             };
         }
-        if page_at(rest).is_some() {
+        if page_at(text).is_some() {
             Err(self.fault(LogCause::Page))
         } else {
             Err(self.fault(LogCause::Form))

@@ -1,6 +1,6 @@
 //! The one spelling of a log, line after line at the end of a text.
 
-ghost use Rattle.std.specs.Prelude.{◌≡◌, ◌++◌, ◌∷◌, ℕ, suc, true, List, Option, All, length, map, IfOk, OnOk, string_bytes};
+ghost use Rattle.std.specs.Prelude.{◌≡◌, ◌<◌, ◌^◌, ◌++◌, ◌∷◌, ℕ, suc, true, List, Option, All, length, map, IfOk, OnOk, string_bytes};
 ghost use Rattle.std.specs.List.{join_with_byte};
 ghost use Rattle.pl_event.specs.declared.log.Line.{Line};
 ghost use Rattle.log_text.specs.Spelling.{page, row_of, kind_words, record_words, load_word, store_word, fault_word, page_word, point_word, header_text, line_text, entry_text, entries_text, log_spelling, points_from};
@@ -12,11 +12,12 @@ use pl_event::{Arcs, Kind, Line, Lines, Log, PageKind, PageRun, Point, Record};
 use std::alloc::{AllocError, Global};
 
 /// The text of a log. It may have any number of records, and their numbers may be any of 32 bits; the text of a log that
-/// is well-formed is read as that log.
+/// is well-formed is read as that log, and is short enough to be read.
 pub fn write_log(alloc: Global, log: &Log) -> Result<Vec<u8>, NoMemory>
     requires { IsWritable log.now }
     ensures text { IfOk result (λ text. text.items ≡ log_spelling log.now) }
     ensures back { IsWellFormed log.now → IfOk result (λ text. IsLogText text.items log.now) }
+    ensures short { IsWellFormed log.now → IfOk result (λ text. length text.items < 2 ^ 31) }
 {
     let mut out = String::new(alloc);
     write_header(&mut out, log.harts, log.block)?;

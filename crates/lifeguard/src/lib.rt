@@ -7,8 +7,10 @@
 //! was mapped, and none for the other pages.
 #![tactic(auto)]
 
+mod calls;
 mod cells;
 mod guard;
+mod laws;
 mod masks;
 mod page;
 mod pages;
@@ -17,7 +19,10 @@ mod report;
 mod rules;
 mod shadow;
 
+pub use calls::call_registers;
 pub use guard::{CheckedRegs, Lifeguard, Name, RangeKind, load_mask};
+pub use laws::few_reports;
+pub use page::PAGE_BYTES;
 pub use plain::PlainMonitor;
 pub use report::{Report, ReportKind};
 pub use shadow::Shadow;

@@ -16,9 +16,10 @@ use std::alloc::Global;
 /// The plain rules of a lifeguard, applied event by event.
 #[derive(Drop)]
 pub struct PlainMonitor<L: Lifeguard> {
-    pub guard: L,
-    pub harts: u8,
-    pub shadow: Shadow,
+    guard: L,
+    harts: u8,
+    shadow: Shadow,
+    ghost few: { harts ≤ 8 },
 }
 
 impl<L: Lifeguard> PlainMonitor<L> {
@@ -43,11 +44,25 @@ impl<L: Lifeguard> PlainMonitor<L> {
         })
     }
 
+    /// The lifeguard.
+    pub fn guard(&self) -> L
+        ensures { result ≡ self.now.guard }
+    {
+        self.guard
+    }
+
+    /// How many harts the run has, at most 8.
+    pub fn harts(&self) -> u8
+        ensures harts { result ≡ self.now.harts }
+        ensures few { result ≤ 8 }
+    {
+        self.harts
+    }
+
     /// Applies one event that is valid for the run's number of harts. At most 2,000,000 events are applied. Without
     /// memory nothing changes.
     #[inline]
     pub fn apply(&mut self, event: &Event) -> Result<(), NoMemory>
-        requires few { self.old.harts ≤ 8 }
         requires valid { IsValidEvent event.now self.old.harts }
         requires room { place_of self.old.shadow < 2000000 }
         ensures stands { OnOk result ((pages : List PageRun) (events : List Event) → Stands (L.rules self.old.guard) pages events self.old.shadow
@@ -70,7 +85,6 @@ impl<L: Lifeguard> PlainMonitor<L> {
     /// The mask of a register, below 34, of a hart of the run.
     #[inline]
     pub fn mask(&self, hart: u8, reg: u8) -> u8
-        requires few { self.now.harts ≤ 8 }
         requires hart { hart < self.now.harts }
         requires register { reg < 34 }
         ensures { result ≡ (state_of self.now.shadow).masks hart reg }

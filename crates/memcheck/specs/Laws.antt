@@ -1,7 +1,7 @@
 -- MemCheck keeps the laws of lifeguards.
 use Rattle.std.specs.Prelude.{◌≡◌, ℕ, ◌%◌, ◌<◌, ◌≤◌, Bool, true, false, not, ◌==◌, [], ◌∷◌, length, All, refl}
-use Rattle.std.proofs.Common.{lit<, lit≤, subst, ap, arith}
-use Rattle.std.proofs.lemmas.List.Elements.{All-nil, All-cons, All-tail}
+use Rattle.std.proofs.Common.{lit<, lit≤, subst, ap}
+use Rattle.std.proofs.lemmas.List.Elements.{All-tail}
 use Rattle.pl_event.specs.declared.event.Kind.{Kind}
 use Rattle.pl_event.specs.declared.event.Kind.TheVariants as event
 use Rattle.pl_event.specs.declared.log.PageKind.{PageKind}
@@ -11,16 +11,18 @@ use Rattle.lifeguard.specs.declared.guard.Name.TheVariants.{Addr, Taint, Mem}
 use Rattle.lifeguard.specs.declared.guard.RangeKind.{RangeKind}
 use Rattle.lifeguard.specs.declared.guard.RangeKind.TheVariants.{Al, Fr, Rd}
 use Rattle.lifeguard.specs.Rules.{KeepsLaws, registers_of}
+use Rattle.lifeguard.proofs.CallLemmas.{call_registers_few, call_registers_below}
+use Rattle.lifeguard.proofs.NibbleLemmas.{set_parity, cleared_parity, set_below, cleared_below}
 use Rattle.memcheck.specs.MemRules.{with_defined, mem_page, mem_range, mem_checked, mem_rules}
 
 -- bit 0 stays
 with_defined_parity : (nibble : ℕ) (bit : Bool) → with_defined nibble bit % 2 ≡ nibble % 2
-with_defined_parity nibble true = omega arith
-with_defined_parity nibble false = omega arith
+with_defined_parity nibble true = set_parity nibble
+with_defined_parity nibble false = cleared_parity nibble
 
 with_defined_below : (nibble : ℕ) (bit : Bool) → nibble < 8 → with_defined nibble bit < 8
-with_defined_below nibble true lt = omega arith
-with_defined_below nibble false lt = omega arith
+with_defined_below nibble true lt = set_below nibble lt
+with_defined_below nibble false lt = cleared_below nibble lt
 
 mem_page_below : (kind : PageKind) → mem_page kind < 8
 mem_page_below Data = lit< tt
@@ -35,47 +37,19 @@ mem_range_below Rd nibble lt = with_defined_below nibble true lt
 mem_checked_few : (kind : Kind) → length (mem_checked kind) ≤ 3
 mem_checked_few (event.Ld width rd rb addr) = lit≤ tt
 mem_checked_few (event.St width rv rb addr) = lit≤ tt
-mem_checked_few (event.Op rd r1 r2) = lit≤ tt
-mem_checked_few (event.Mv rd rs) = lit≤ tt
-mem_checked_few (event.Im rd) = lit≤ tt
 mem_checked_few (event.Br r1 r2) = lit≤ tt
 mem_checked_few (event.Jr rd rs) = lit≤ tt
-mem_checked_few (event.Al addr len) = lit≤ tt
-mem_checked_few (event.Fr addr len) = lit≤ tt
-mem_checked_few (event.Bf addr) = lit≤ tt
-mem_checked_few (event.Mp page count) = lit≤ tt
-mem_checked_few (event.Um page count) = lit≤ tt
-mem_checked_few (event.Rd addr len) = lit≤ tt
-mem_checked_few (event.Wr addr len) = lit≤ tt
-mem_checked_few event.Ex = lit≤ tt
-mem_checked_few (event.Ft cause addr) = lit≤ tt
+mem_checked_few kind = call_registers_few kind
 
 abbrev IsRegister : ℕ → Type 0
 IsRegister register = register < 34
 
-two : (a b : ℕ) → a < 34 → b < 34 → All IsRegister (a ∷ b ∷ [])
-two a b first second = All-cons IsRegister a (b ∷ []) first (All-cons IsRegister b [] second (All-nil IsRegister))
-
-three : (a b c : ℕ) → a < 34 → b < 34 → c < 34 → All IsRegister (a ∷ b ∷ c ∷ [])
-three a b c first second third = All-cons IsRegister a (b ∷ c ∷ []) first (two b c second third)
-
 mem_checked_below : (kind : Kind) → All IsRegister (registers_of kind) → All IsRegister (mem_checked kind)
 mem_checked_below (event.Ld width rd rb addr) named = All-tail IsRegister rd (rb ∷ []) named
 mem_checked_below (event.St width rv rb addr) named = All-tail IsRegister rv (rb ∷ []) named
-mem_checked_below (event.Op rd r1 r2) named = All-nil IsRegister
-mem_checked_below (event.Mv rd rs) named = All-nil IsRegister
-mem_checked_below (event.Im rd) named = All-nil IsRegister
 mem_checked_below (event.Br r1 r2) named = named
 mem_checked_below (event.Jr rd rs) named = All-tail IsRegister rd (rs ∷ []) named
-mem_checked_below (event.Al addr len) named = two 10 17 (lit< tt) (lit< tt)
-mem_checked_below (event.Fr addr len) named = two 10 17 (lit< tt) (lit< tt)
-mem_checked_below (event.Bf addr) named = two 10 17 (lit< tt) (lit< tt)
-mem_checked_below (event.Mp page count) named = three 10 11 17 (lit< tt) (lit< tt) (lit< tt)
-mem_checked_below (event.Um page count) named = three 10 11 17 (lit< tt) (lit< tt) (lit< tt)
-mem_checked_below (event.Rd addr len) named = three 11 12 17 (lit< tt) (lit< tt) (lit< tt)
-mem_checked_below (event.Wr addr len) named = three 11 12 17 (lit< tt) (lit< tt) (lit< tt)
-mem_checked_below event.Ex named = two 10 17 (lit< tt) (lit< tt)
-mem_checked_below (event.Ft cause addr) named = All-nil IsRegister
+mem_checked_below kind named = call_registers_below kind
 
 abbrev IsMem : Name → Type 0
 IsMem Addr = ⊥

@@ -7,6 +7,7 @@ use Rattle.pl_event.specs.declared.log.PageKind.TheVariants.{Data, Heap, Stack}
 use Rattle.lifeguard.specs.declared.guard.Name.TheVariants.{Mem}
 use Rattle.lifeguard.specs.declared.guard.RangeKind.{RangeKind}
 use Rattle.lifeguard.specs.declared.guard.RangeKind.TheVariants.{Al, Fr, Rd}
+use Rattle.lifeguard.specs.Calls.{call_registers}
 use Rattle.lifeguard.specs.Rules.{Rules, all_or_none}
 
 abbrev pub is_addressable : ℕ → Bool
@@ -32,25 +33,13 @@ mem_range Al old = 1
 mem_range Fr old = 0
 mem_range Rd old = with_defined old true
 
--- the base of an access, what a branch compares, a jump's register, and the registers that a kernel call reads: its
--- arguments, and its number last
+-- the base of an access, what a branch compares, a jump's register, and the registers that a kernel call reads
 abbrev pub mem_checked : Kind → List ℕ
 mem_checked (event.Ld width rd rb addr) = rb ∷ []
 mem_checked (event.St width rv rb addr) = rb ∷ []
-mem_checked (event.Op rd r1 r2) = []
-mem_checked (event.Mv rd rs) = []
-mem_checked (event.Im rd) = []
 mem_checked (event.Br r1 r2) = r1 ∷ r2 ∷ []
 mem_checked (event.Jr rd rs) = rs ∷ []
-mem_checked (event.Al addr len) = 10 ∷ 17 ∷ []
-mem_checked (event.Fr addr len) = 10 ∷ 17 ∷ []
-mem_checked (event.Bf addr) = 10 ∷ 17 ∷ []
-mem_checked (event.Mp page count) = 10 ∷ 11 ∷ 17 ∷ []
-mem_checked (event.Um page count) = 10 ∷ 11 ∷ 17 ∷ []
-mem_checked (event.Rd addr len) = 11 ∷ 12 ∷ 17 ∷ []
-mem_checked (event.Wr addr len) = 11 ∷ 12 ∷ 17 ∷ []
-mem_checked event.Ex = 10 ∷ 17 ∷ []
-mem_checked (event.Ft cause addr) = []
+mem_checked kind = call_registers kind
 
 abbrev pub mem_rules : Rules
 mem_rules = record {

@@ -11,7 +11,7 @@ ghost use Rattle.memcheck.specs.MemRules.{is_addressable as is_addressable_nibbl
 #[cfg(test)]
 mod tests;
 
-use lifeguard::{CheckedRegs, Lifeguard, Name, RangeKind};
+use lifeguard::{CheckedRegs, Lifeguard, Name, RangeKind, call_registers};
 use pl_event::{Kind, PageKind};
 
 /// Reports bad accesses and uses of undefined bytes.
@@ -93,7 +93,6 @@ impl Lifeguard for MemCheck {
         is_undefined(nibble)
     }
 
-    /// A kernel call has its number in register 17 and its arguments from register 10 on.
     #[inline]
     fn checked(&self, kind: &Kind) -> CheckedRegs {
         match *kind {
@@ -109,22 +108,7 @@ impl Lifeguard for MemCheck {
                 count: 1,
                 regs: [rs, 0, 0],
             },
-            Kind::Al { .. } | Kind::Fr { .. } | Kind::Bf { .. } | Kind::Ex => CheckedRegs {
-                count: 2,
-                regs: [10, 17, 0],
-            },
-            Kind::Mp { .. } | Kind::Um { .. } => CheckedRegs {
-                count: 3,
-                regs: [10, 11, 17],
-            },
-            Kind::Rd { .. } | Kind::Wr { .. } => CheckedRegs {
-                count: 3,
-                regs: [11, 12, 17],
-            },
-            Kind::Op { .. } | Kind::Mv { .. } | Kind::Im { .. } | Kind::Ft { .. } => CheckedRegs {
-                count: 0,
-                regs: [0; 3],
-            },
+            _ => call_registers(kind),
         }
     }
 

@@ -1,7 +1,7 @@
 -- TaintCheck keeps the laws of lifeguards.
 use Rattle.std.specs.Prelude.{◌≡◌, ℕ, ◌<◌, ◌≤◌, Bool, true, false, [], ◌∷◌, length, All, refl}
 use Rattle.std.proofs.Common.{lit<, lit≤, subst}
-use Rattle.std.proofs.lemmas.List.Elements.{All-nil, All-cons, All-tail}
+use Rattle.std.proofs.lemmas.List.Elements.{All-tail}
 use Rattle.pl_event.specs.declared.event.Kind.{Kind}
 use Rattle.pl_event.specs.declared.event.Kind.TheVariants as event
 use Rattle.lifeguard.specs.declared.guard.Name.{Name}
@@ -9,6 +9,7 @@ use Rattle.lifeguard.specs.declared.guard.Name.TheVariants.{Addr, Taint, Mem}
 use Rattle.lifeguard.specs.declared.guard.RangeKind.{RangeKind}
 use Rattle.lifeguard.specs.declared.guard.RangeKind.TheVariants.{Al, Fr, Rd}
 use Rattle.lifeguard.specs.Rules.{KeepsLaws, registers_of}
+use Rattle.lifeguard.proofs.CallLemmas.{call_registers_few, call_registers_below}
 use Rattle.taintcheck.specs.TaintRules.{taint_store, taint_range, taint_checked, taint_rules}
 
 taint_store_below : (nibble : ℕ) (bit : Bool) → taint_store nibble bit < 8
@@ -21,49 +22,15 @@ taint_range_below Fr nibble lt = lt
 taint_range_below Rd nibble lt = lit< tt
 
 taint_checked_few : (kind : Kind) → length (taint_checked kind) ≤ 3
-taint_checked_few (event.Ld width rd rb addr) = lit≤ tt
-taint_checked_few (event.St width rv rb addr) = lit≤ tt
-taint_checked_few (event.Op rd r1 r2) = lit≤ tt
-taint_checked_few (event.Mv rd rs) = lit≤ tt
-taint_checked_few (event.Im rd) = lit≤ tt
-taint_checked_few (event.Br r1 r2) = lit≤ tt
 taint_checked_few (event.Jr rd rs) = lit≤ tt
-taint_checked_few (event.Al addr len) = lit≤ tt
-taint_checked_few (event.Fr addr len) = lit≤ tt
-taint_checked_few (event.Bf addr) = lit≤ tt
-taint_checked_few (event.Mp page count) = lit≤ tt
-taint_checked_few (event.Um page count) = lit≤ tt
-taint_checked_few (event.Rd addr len) = lit≤ tt
-taint_checked_few (event.Wr addr len) = lit≤ tt
-taint_checked_few event.Ex = lit≤ tt
-taint_checked_few (event.Ft cause addr) = lit≤ tt
+taint_checked_few kind = call_registers_few kind
 
 abbrev IsRegister : ℕ → Type 0
 IsRegister register = register < 34
 
-two : (a b : ℕ) → a < 34 → b < 34 → All IsRegister (a ∷ b ∷ [])
-two a b first second = All-cons IsRegister a (b ∷ []) first (All-cons IsRegister b [] second (All-nil IsRegister))
-
-three : (a b c : ℕ) → a < 34 → b < 34 → c < 34 → All IsRegister (a ∷ b ∷ c ∷ [])
-three a b c first second third = All-cons IsRegister a (b ∷ c ∷ []) first (two b c second third)
-
 taint_checked_below : (kind : Kind) → All IsRegister (registers_of kind) → All IsRegister (taint_checked kind)
-taint_checked_below (event.Ld width rd rb addr) named = All-nil IsRegister
-taint_checked_below (event.St width rv rb addr) named = All-nil IsRegister
-taint_checked_below (event.Op rd r1 r2) named = All-nil IsRegister
-taint_checked_below (event.Mv rd rs) named = All-nil IsRegister
-taint_checked_below (event.Im rd) named = All-nil IsRegister
-taint_checked_below (event.Br r1 r2) named = All-nil IsRegister
 taint_checked_below (event.Jr rd rs) named = All-tail IsRegister rd (rs ∷ []) named
-taint_checked_below (event.Al addr len) named = two 10 17 (lit< tt) (lit< tt)
-taint_checked_below (event.Fr addr len) named = two 10 17 (lit< tt) (lit< tt)
-taint_checked_below (event.Bf addr) named = two 10 17 (lit< tt) (lit< tt)
-taint_checked_below (event.Mp page count) named = three 10 11 17 (lit< tt) (lit< tt) (lit< tt)
-taint_checked_below (event.Um page count) named = three 10 11 17 (lit< tt) (lit< tt) (lit< tt)
-taint_checked_below (event.Rd addr len) named = three 11 12 17 (lit< tt) (lit< tt) (lit< tt)
-taint_checked_below (event.Wr addr len) named = three 11 12 17 (lit< tt) (lit< tt) (lit< tt)
-taint_checked_below event.Ex named = two 10 17 (lit< tt) (lit< tt)
-taint_checked_below (event.Ft cause addr) named = All-nil IsRegister
+taint_checked_below kind named = call_registers_below kind
 
 abbrev IsTaint : Name → Type 0
 IsTaint Addr = ⊥

@@ -5,6 +5,7 @@ use Rattle.pl_event.specs.declared.event.Kind.TheVariants as event
 use Rattle.lifeguard.specs.declared.guard.Name.TheVariants.{Taint}
 use Rattle.lifeguard.specs.declared.guard.RangeKind.{RangeKind}
 use Rattle.lifeguard.specs.declared.guard.RangeKind.TheVariants.{Al, Fr, Rd}
+use Rattle.lifeguard.specs.Calls.{call_registers}
 use Rattle.lifeguard.specs.Rules.{Rules, all_or_none}
 
 -- a stored byte is marked as the register's byte is
@@ -18,24 +19,10 @@ taint_range Al old = old
 taint_range Fr old = old
 taint_range Rd old = 4
 
--- a jump's register, and the registers that a kernel call reads: its arguments, and its number last
+-- a jump's register, and the registers that a kernel call reads
 abbrev pub taint_checked : Kind → List ℕ
-taint_checked (event.Ld width rd rb addr) = []
-taint_checked (event.St width rv rb addr) = []
-taint_checked (event.Op rd r1 r2) = []
-taint_checked (event.Mv rd rs) = []
-taint_checked (event.Im rd) = []
-taint_checked (event.Br r1 r2) = []
 taint_checked (event.Jr rd rs) = rs ∷ []
-taint_checked (event.Al addr len) = 10 ∷ 17 ∷ []
-taint_checked (event.Fr addr len) = 10 ∷ 17 ∷ []
-taint_checked (event.Bf addr) = 10 ∷ 17 ∷ []
-taint_checked (event.Mp page count) = 10 ∷ 11 ∷ 17 ∷ []
-taint_checked (event.Um page count) = 10 ∷ 11 ∷ 17 ∷ []
-taint_checked (event.Rd addr len) = 11 ∷ 12 ∷ 17 ∷ []
-taint_checked (event.Wr addr len) = 11 ∷ 12 ∷ 17 ∷ []
-taint_checked event.Ex = 10 ∷ 17 ∷ []
-taint_checked (event.Ft cause addr) = []
+taint_checked kind = call_registers kind
 
 -- no access and no value is bad
 abbrev pub taint_rules : Rules

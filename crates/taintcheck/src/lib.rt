@@ -9,7 +9,7 @@ ghost use Rattle.taintcheck.specs.TaintRules.{taint_rules};
 #[cfg(test)]
 mod tests;
 
-use lifeguard::{CheckedRegs, Lifeguard, Name, RangeKind};
+use lifeguard::{CheckedRegs, Lifeguard, Name, RangeKind, call_registers};
 use pl_event::{Kind, PageKind};
 
 /// Reports uses of bytes from outside.
@@ -61,7 +61,6 @@ impl Lifeguard for TaintCheck {
         false
     }
 
-    /// A kernel call has its number in register 17 and its arguments from register 10 on.
     #[inline]
     fn checked(&self, kind: &Kind) -> CheckedRegs {
         match *kind {
@@ -69,28 +68,7 @@ impl Lifeguard for TaintCheck {
                 count: 1,
                 regs: [rs, 0, 0],
             },
-            Kind::Al { .. } | Kind::Fr { .. } | Kind::Bf { .. } | Kind::Ex => CheckedRegs {
-                count: 2,
-                regs: [10, 17, 0],
-            },
-            Kind::Mp { .. } | Kind::Um { .. } => CheckedRegs {
-                count: 3,
-                regs: [10, 11, 17],
-            },
-            Kind::Rd { .. } | Kind::Wr { .. } => CheckedRegs {
-                count: 3,
-                regs: [11, 12, 17],
-            },
-            Kind::Ld { .. }
-            | Kind::St { .. }
-            | Kind::Op { .. }
-            | Kind::Mv { .. }
-            | Kind::Im { .. }
-            | Kind::Br { .. }
-            | Kind::Ft { .. } => CheckedRegs {
-                count: 0,
-                regs: [0; 3],
-            },
+            _ => call_registers(kind),
         }
     }
 

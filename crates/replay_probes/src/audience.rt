@@ -35,8 +35,8 @@ impl<B: Probe> Audience<B> {
         })
     }
 
-    /// Shows the next event, of a hart below 8, to each probe that has not stopped. Without memory some of them may have
-    /// seen it.
+    /// Shows the next event, of a hart below 8, to each probe that has not stopped. Without memory all probes stay in their
+    /// places, but only some of them have seen the event: nothing more may be shown.
     #[inline]
     pub fn show(&mut self, alloc: Global, event: &Event) -> Result<(), NoMemory>
         requires hart { event.now.hart < 8 }

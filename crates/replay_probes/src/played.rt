@@ -30,6 +30,7 @@ pub fn replay<L: Lifeguard>(
     requires playable { CanPlay log.now }
     requires fresh { All (λ probe. has_seen probe []) probes.items }
     ensures stands { IfOk result (λ replayed. Stands (L.rules l) log.now.pages (events_of log.now.lines) replayed.monitor.shadow) }
+    ensures guard { IfOk result (λ replayed. replayed.monitor.guard ≡ l) }
     ensures harts { IfOk result (λ replayed. replayed.monitor.harts ≡ log.now.harts) }
     ensures lines { IfOk result (λ replayed. map (λ line. line.items) replayed.lines.items
         ≡ map (line_over (events_of log.now.lines)) (map (λ probe. meaning probe) probes.items)) }
@@ -65,6 +66,7 @@ fn play<L: Lifeguard, B: Probe>(
     requires short { length lines.now ≤ 2000000 }
     requires fresh { All (λ probe. B.has_seen probe []) probes.items }
     ensures plays { IfOk result (λ replayer. Plays B.meaning B.has_seen (L.rules l) pages.now (map B.meaning probes.items) (events_of lines.now) replayer.monitor.shadow replayer.audience) }
+    ensures guard { IfOk result (λ replayer. replayer.monitor.guard ≡ l) }
     ensures harts { IfOk result (λ replayer. replayer.monitor.harts ≡ harts) }
 {
     let mut replayer = Replayer::new(alloc, l, harts, pages, probes)?;
@@ -81,7 +83,6 @@ fn step_record<L: Lifeguard, B: Probe>(
     replayer: &mut Replayer<L, B>,
     what: Record,
 ) -> Result<(), NoMemory>
-    requires few { replayer.old.monitor.harts ≤ 8 }
     requires valid { CanPlayRecord replayer.old.monitor.harts what }
     requires room { place_of replayer.old.monitor.shadow < 2000000 }
     ensures plays { OnOk result ((pages : List PageRun) (meanings : List Meaning) (events : List Event)

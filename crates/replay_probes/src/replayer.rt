@@ -12,10 +12,10 @@ use std::alloc::Global;
 /// A run that is played event by event: the plain monitor, and the probes that look on.
 #[derive(Drop)]
 pub struct Replayer<L: Lifeguard, B> {
-    pub monitor: PlainMonitor<L>,
-    pub audience: Audience<B>,
+    monitor: PlainMonitor<L>,
+    audience: Audience<B>,
     /// Memory was missing at some event: nothing more is answered.
-    pub lost: bool,
+    lost: bool,
     ghost level: { place_of_audience audience ≡ place_of monitor.shadow },
 }
 
@@ -66,7 +66,6 @@ impl<L: Lifeguard, B: Probe> Replayer<L, B> {
     /// is lost: no later call answers anything else.
     #[inline]
     pub fn step(&mut self, alloc: Global, event: &Event) -> Result<(), NoMemory>
-        requires few { self.old.monitor.harts ≤ 8 }
         requires valid { IsValidEvent event.now self.old.monitor.harts }
         requires room { place_of self.old.monitor.shadow < 2000000 }
         ensures plays { OnOk result ((pages : List PageRun) (meanings : List Meaning) (events : List Event)
@@ -85,6 +84,20 @@ impl<L: Lifeguard, B: Probe> Replayer<L, B> {
         self.audience.show(alloc, event)?;
         self.lost = false;
         Ok(())
+    }
+
+    /// The plain monitor of the events so far.
+    pub fn monitor(&self) -> &PlainMonitor<L>
+        ensures { result.now ≡ self.now.monitor }
+    {
+        &self.monitor
+    }
+
+    /// Whether memory was missing at some event.
+    pub fn is_lost(&self) -> bool
+        ensures { result ≡ self.now.lost }
+    {
+        self.lost
     }
 
     /// The monitor, and the lines of the probes.

@@ -4,7 +4,6 @@ ghost use Rattle.replay_probes.specs.Watches.{IsShown, IsLineOf};
 use crate::probe::{Probe, See, Shown};
 use pl_base::NoMemory;
 use std::alloc::Global;
-use std::mem;
 
 /// A probe that still sees, or the line of one that stopped.
 #[derive(Drop)]
@@ -13,23 +12,22 @@ pub enum Watch<B> {
     Off(Vec<u8>),
 }
 
-/// Shows an event to a probe that still sees; one that stops is finished and dropped.
+/// Shows an event to a probe that still sees; one that stops is finished and dropped. Without memory the probe stays where
+/// it is: it has seen the event where only its line had no room, and else not.
 #[inline]
 pub fn show<B: Probe>(alloc: Global, watch: &mut Watch<B>, shown: &Shown) -> Result<(), NoMemory>
     ensures { IfOk result (λ _. IsShown B.meaning B.has_seen shown.now watch.old watch.new) }
 {
-    match mem::replace(watch, Watch::Off(Vec::new(alloc))) {
-        Watch::On(mut probe) => {
-            match probe.see(alloc, shown.place, shown.number, &shown.event)? {
-                See::Go => *watch = Watch::On(probe),
-                See::Stop => *watch = Watch::Off(probe.finish(alloc)?),
+    match watch {
+        Watch::On(probe) => match probe.see(alloc, shown.place, shown.number, &shown.event)? {
+            See::Go => Ok(()),
+            See::Stop => {
+                let line = probe.finish(alloc)?;
+                *watch = Watch::Off(line);
+                Ok(())
             }
-            Ok(())
-        }
-        Watch::Off(line) => {
-            *watch = Watch::Off(line);
-            Ok(())
-        }
+        },
+        Watch::Off(_) => Ok(()),
     }
 }
 

@@ -4,7 +4,7 @@ ghost use Rattle.lifeguard.specs.Pages.{IsPage};
 ghost use Rattle.lifeguard.specs.Stands.{state_of, bytes_of};
 ghost use Rattle.report_text.specs.Runs.{runs_from, runs_of, AreLongestRuns, ended_run};
 
-use lifeguard::{Lifeguard, PlainMonitor, Shadow};
+use lifeguard::{Lifeguard, PAGE_BYTES, PlainMonitor};
 use pl_base::NoMemory;
 use std::alloc::Global;
 
@@ -45,29 +45,26 @@ trait Nibbles {
 /// How many cells are compared in one go.
 const BLOCK: u32 = 64;
 
-/// How many bytes a page has.
-const PAGE_BYTES: u32 = 4096;
-
-/// The cells of a plain monitor's shadow state, page by page.
+/// The cells of a plain monitor, page by page.
 #[derive(Clone, Copy)]
-struct Pages<'a> {
-    shadow: &'a Shadow,
+struct Pages<'a, L: Lifeguard> {
+    monitor: &'a PlainMonitor<L>,
 }
 
-impl<'a> Nibbles for Pages<'a> {
-    ghost bytes = { λ nibbles. (state_of nibbles.shadow.now).bytes };
+impl<'a, L: Lifeguard> Nibbles for Pages<'a, L> {
+    ghost bytes = { λ nibbles. (state_of nibbles.monitor.now.shadow).bytes };
 
     ghost count = { λ nibbles. 2 ^ 24 };
 
     #[inline]
     fn nibble(&self, addr: u32) -> u8 {
-        let page = self.shadow.page((addr / PAGE_BYTES) as u16);
+        let page = self.monitor.page((addr / PAGE_BYTES) as u16);
         cell_nibble(page, (addr % PAGE_BYTES) as usize)
     }
 
     #[inline]
     fn alike_end(&self, addr: u32, size: u32) -> u32 {
-        let page = self.shadow.page((addr / PAGE_BYTES) as u16);
+        let page = self.monitor.page((addr / PAGE_BYTES) as u16);
         let place = addr % PAGE_BYTES;
         size.min(addr + cells_alike(page, place))
     }
@@ -170,5 +167,5 @@ pub fn runs_of_plain<L: Lifeguard>(
     ensures runs { IfOk result (λ runs. runs.items ≡ runs_of (state_of m.now.shadow).bytes) }
     ensures longest { IfOk result (λ runs. AreLongestRuns (state_of m.now.shadow).bytes 0 (2 ^ 24) runs.items) }
 {
-    runs_below(alloc, Pages { shadow: &m.shadow }, MEMORY_BYTES)
+    runs_below(alloc, Pages { monitor: m }, MEMORY_BYTES)
 }

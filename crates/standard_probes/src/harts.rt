@@ -2,7 +2,7 @@ ghost use Rattle.std.specs.Prelude.{◌≡◌, ◌++◌, ◌∷◌, IfOk, OnOk, 
 ghost use Rattle.std.specs.Fmt.{decimal};
 ghost use Rattle.standard_probes.specs.ProbeLines.{counted, harts_text};
 
-use crate::tally::{raise, write_counted};
+use crate::tally::raise;
 use pl_base::NoMemory;
 use pl_event::Event;
 use replay_probes::{Probe, See};

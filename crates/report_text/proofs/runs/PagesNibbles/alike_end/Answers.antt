@@ -3,8 +3,8 @@ use Rattle.lifeguard.specs.Stands.{bytes_in}
 use Rattle.report_text.proofs.runs.PagesNibbles.alike_end.Goals as goal
 
 pub returns-clause-alike : goal.returns-clause-alike
-returns-clause-alike c = λ a from below.
-    let bytes = bytes_in c.args.self.now.shadow.now.pages.items in
+returns-clause-alike g c = λ a from below.
+    let bytes = bytes_in c.args.self.now.monitor.now.shadow.pages.items in
     let near : a < c.args.addr + c.cells_alike.result = omega arith in
     let here : c.args.addr / 4096 * 4096 + a % 4096 ≡ a = omega (arith, c.cells_alike.ensures.inside) in
     let first : c.args.addr / 4096 * 4096 + c.args.addr % 4096 ≡ c.args.addr = omega arith in

@@ -224,6 +224,17 @@ impl PagedMem {
         Ok(())
     }
 
+    /// Whether each of `count` addresses from `addr` on can be written: all lie on mapped pages, and none on text.
+    pub fn can_write(&self, addr: u32, count: u32) -> bool
+        ensures { MatchBool result (IsWritable self.now addr count) (IsWritable self.now addr count → ⊥) }
+    {
+        let count = count as usize;
+        if self.first_unmapped(addr, count).is_some() {
+            return false;
+        }
+        !self.has_text(addr, count)
+    }
+
     /// Writes the bytes of `from` from `addr` on, to text too.
     pub fn fill(&mut self, addr: u32, from: &[u8])
         requires { AllMapped (bytes self.old) addr (length from.now) }

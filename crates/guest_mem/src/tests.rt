@@ -87,3 +87,16 @@ fn at_most_512_pages_are_mapped_and_a_page_mapped_again_holds_zeros(
     assert_eq!(rt; mem.unmap(4095, 2), Err(NotMapped));
     Ok(())
 }
+
+#[test]
+fn bytes_can_be_written_on_mapped_pages_without_text(rt: HostRuntime) -> Result<(), Fail> {
+    let mut mem = PagedMem::new(rt.alloc())?;
+    assert_eq!(rt; mem.map(16, 1, false), Ok(()));
+    assert_eq!(rt; mem.map(17, 1, true), Ok(()));
+    assert!(rt; mem.can_write(0x10000, 4096));
+    assert!(rt; !mem.can_write(0x10000, 4097));
+    assert!(rt; !mem.can_write(0xffff, 2));
+    assert!(rt; mem.can_write(u32::MAX, 0));
+    assert!(rt; !mem.can_write(u32::MAX, 1));
+    Ok(())
+}

@@ -25,37 +25,12 @@ fn shown(alloc: Global, i: &Instr) -> Result<String, AllocError>
         Instr::Lui { rd, imm } | Instr::Auipc { rd, imm } => with_upper(alloc, name, rd, imm),
         Instr::Jal { rd, off } => with_offset(alloc, name, rd, off),
         Instr::Jalr { rd, rs1, imm } => with_address(alloc, name, rd, imm, rs1),
-        Instr::Branch {
-            op: _,
-            rs1,
-            rs2,
-            off,
-        } => with_number(alloc, name, rs1, rs2, off),
-        Instr::Load {
-            width: _,
-            rd,
-            rs1,
-            imm,
-        } => with_address(alloc, name, rd, imm, rs1),
-        Instr::Store {
-            width: _,
-            rs2,
-            rs1,
-            imm,
-        } => with_address(alloc, name, rs2, imm, rs1),
-        Instr::OpImm {
-            op: _,
-            rd,
-            rs1,
-            imm,
-        } => with_number(alloc, name, rd, rs1, imm),
-        Instr::Op {
-            op: _,
-            rd,
-            rs1,
-            rs2,
-        } => with_registers(alloc, name, rd, rs1, rs2),
-        Instr::Fence { bits: _ } | Instr::Ecall => String::from_str(alloc, name),
+        Instr::Branch { rs1, rs2, off, .. } => with_number(alloc, name, rs1, rs2, off),
+        Instr::Load { rd, rs1, imm, .. } => with_address(alloc, name, rd, imm, rs1),
+        Instr::Store { rs2, rs1, imm, .. } => with_address(alloc, name, rs2, imm, rs1),
+        Instr::OpImm { rd, rs1, imm, .. } => with_number(alloc, name, rd, rs1, imm),
+        Instr::Op { rd, rs1, rs2, .. } => with_registers(alloc, name, rd, rs1, rs2),
+        Instr::Fence { .. } | Instr::Ecall => String::from_str(alloc, name),
     }
 }
 
@@ -105,45 +80,16 @@ fn mnemonic(i: &Instr) -> &'static str
     ensures { result.now ≡ (row (operation i.now)).mnemonic }
 {
     match *i {
-        Instr::Lui { rd: _, imm: _ } => "lui",
-        Instr::Auipc { rd: _, imm: _ } => "auipc",
-        Instr::Jal { rd: _, off: _ } => "jal",
-        Instr::Jalr {
-            rd: _,
-            rs1: _,
-            imm: _,
-        } => "jalr",
-        Instr::Branch {
-            op,
-            rs1: _,
-            rs2: _,
-            off: _,
-        } => branch_name(op),
-        Instr::Load {
-            width,
-            rd: _,
-            rs1: _,
-            imm: _,
-        } => load_name(width),
-        Instr::Store {
-            width,
-            rs2: _,
-            rs1: _,
-            imm: _,
-        } => store_name(width),
-        Instr::OpImm {
-            op,
-            rd: _,
-            rs1: _,
-            imm: _,
-        } => imm_name(op),
-        Instr::Op {
-            op,
-            rd: _,
-            rs1: _,
-            rs2: _,
-        } => reg_name(op),
-        Instr::Fence { bits: _ } => "fence",
+        Instr::Lui { .. } => "lui",
+        Instr::Auipc { .. } => "auipc",
+        Instr::Jal { .. } => "jal",
+        Instr::Jalr { .. } => "jalr",
+        Instr::Branch { op, .. } => branch_name(op),
+        Instr::Load { width, .. } => load_name(width),
+        Instr::Store { width, .. } => store_name(width),
+        Instr::OpImm { op, .. } => imm_name(op),
+        Instr::Op { op, .. } => reg_name(op),
+        Instr::Fence { .. } => "fence",
         Instr::Ecall => "ecall",
     }
 }

@@ -36,18 +36,19 @@ use Rattle.core_sim.specs.declared.job.Job.{Job}
 use Rattle.core_sim.specs.declared.turn.Place.{Place}
 use Rattle.core_sim.specs.declared.turn.Place.TheVariants.{Around, Listed, Drawn}
 use Rattle.core_sim.specs.declared.turn.Turn.{Turn}
-use Rattle.core_sim.specs.Entries.{Entry, is_mapped, mapped_by, block_at, blocks_by, byte_at, value, state_after, harts_after, turn_after}
+use Rattle.core_sim.specs.Entries.{Entry, is_mapped, mapped_by, block_at, blocks_by, byte_at, value, state_after, harts_after}
 use Rattle.core_sim.specs.Events.{kind_of, is_copy, cancels}
 use Rattle.core_sim.specs.Harts.{is_live, live_from, live_harts, is_among_live}
 use Rattle.core_sim.specs.Runs.{IsFront, state_of_hart}
 use Rattle.core_sim.specs.Schedules.{items_of, first_live, listed_turn, next_turn, drawn, turn_of_step}
-use Rattle.core_sim.specs.Stands.{event_of}
+use Rattle.core_sim.specs.Stands.{event_of, turn_after}
 use Rattle.core_sim.specs.Start.{text_run, data_runs, heap_run, stack_run, start_runs, is_in_runs}
 use Rattle.core_sim.specs.Steps.{Act, word_at, called, call_args, CanLoad, CanStore, IsDone, IsFetched, IsStep}
 use Rattle.core_sim.specs.Valid.{IsValidJob}
 use Rattle.core_sim.proofs.Lives.{live_more, live_less, within_live}
 use Rattle.core_sim.proofs.Starts.{length_begin}
 use Rattle.core_sim.proofs.Ties.{shown_mapped, among_parts}
+use Rattle.core_sim.proofs.Turning.{same_hart}
 
 -- pages of the map region, at least one
 pub record InRegion (page count : ℕ) : Type 0 where
@@ -426,6 +427,6 @@ harts_within job (e ∷ before) = omega (arith, harts_within job before, length-
 pub event_is_valid : (job : Job) (before : List Entry) (e : Entry) → IsValidJob job → IsFront job (e ∷ before) → IsValidEvent (event_of e) job.harts
 event_is_valid job before e valid front =
     let turn = turn_below (items_of job.schedule) (turn_after job before) (harts_after job before) front.1.live in (
-      omega (arith, turn, front.1.hart, harts_within job before),
+      omega (arith, turn, front.1.hart, same_hart job before front.0 front.1.live, harts_within job before),
       valid_fields job before e.act.kind (bounds_of job before valid front.0) (tells_step job.words (state_after job before) (state_of_hart job before e.hart) e.act front.1.step),
     )

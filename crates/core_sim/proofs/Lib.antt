@@ -1,8 +1,10 @@
 mod Lives
 mod Ties
 mod Fitting
+mod Turning
 mod Stepping
 mod Starts
+mod Roomy
 mod Doings
 mod Unique
 mod Happening

@@ -8,16 +8,17 @@ use Rattle.core_sim.specs.declared.job.Item.{Item}
 use Rattle.core_sim.specs.declared.job.Job.{Job}
 use Rattle.core_sim.specs.declared.turn.Turn.{Turn}
 use Rattle.core_sim.specs.Doing.{Did, Does}
-use Rattle.core_sim.specs.Entries.{Entry, state_after, harts_after, turn_after}
+use Rattle.core_sim.specs.Entries.{Entry, state_after, harts_after}
 use Rattle.core_sim.specs.Harts.{live_harts}
 use Rattle.core_sim.specs.Image.{MachineImage}
 use Rattle.core_sim.specs.Runs.{IsFront, IsLive, state_of_hart}
 use Rattle.core_sim.specs.Schedules.{items_of, turn_of_step, stepped}
-use Rattle.core_sim.specs.Stands.{Stands, GoesOn}
+use Rattle.core_sim.specs.Stands.{Stands, GoesOn, turn_after}
 use Rattle.core_sim.specs.Start.{standing_at}
 use Rattle.core_sim.specs.Steps.{Act, IsStep, state_left}
 use Rattle.core_sim.proofs.Fitting.{fits_step}
 use Rattle.core_sim.proofs.Ties.{left_is}
+use Rattle.core_sim.proofs.Turning.{same_hart}
 
 -- the turn of the next entry
 turn_is : (job : Job) (entries : List Entry) (old : MachineImage) → Stands job entries old →
@@ -63,7 +64,7 @@ goes_on job entries old new turn h did events stands turn_here live within h_is 
           record {
             live = λ none. live (ap live_harts stands.harts ∙ none);
             within = omega (arith, stands.steps, stands.limit);
-            hart = ap (λ (t : Turn). t.hart) scheduled_turn;
+            hart = ap (λ (t : Turn). t.hart) scheduled_turn ∙ same_hart job entries stands.front (λ none. live (ap live_harts stands.harts ∙ none));
             step = step;
           },
         );

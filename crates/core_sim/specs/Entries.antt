@@ -7,11 +7,10 @@ use Rattle.pl_event.specs.declared.event.Kind.{Kind}
 use Rattle.pl_event.specs.declared.event.Kind.TheVariants.{St, Al, Fr, Mp, Um, Rd}
 use Rattle.core_sim.specs.declared.job.Job.{Job}
 use Rattle.core_sim.specs.declared.hart.Standing.{Standing}
-use Rattle.core_sim.specs.declared.turn.Turn.{Turn}
 use Rattle.core_sim.specs.Harts.{live_harts}
-use Rattle.core_sim.specs.Schedules.{items_of, no_turn, turn_of_step, stepped}
 use Rattle.core_sim.specs.Start.{start_runs, is_in_runs, is_text, image, first_harts}
 use Rattle.core_sim.specs.Steps.{Act}
+use Rattle.core_sim.specs.Turns.{Turned, with_current, one_more, latest_hart}
 
 -- one step of a run: its hart and what it came to
 pub record Entry : Type 0 where
@@ -89,11 +88,11 @@ abbrev pub harts_after : Job → List Entry → List Standing
 harts_after job [] = first_harts job
 harts_after job (e ∷ before) = slice_set (harts_after job before) e.hart e.act.next
 
--- the turn after these entries, with the steps that are left of it
-abbrev pub turn_after : Job → List Entry → Turn
-turn_after job [] = no_turn job.schedule
-turn_after job (e ∷ before) = stepped (turn_of_step (items_of job.schedule) (turn_after job before) (live_harts (harts_after job before)))
+-- the turns that were begun, the latest first
+abbrev pub turns_of : Job → List Entry → List Turned
+turns_of job [] = []
+turns_of job (e ∷ before) = one_more (with_current job.schedule (turns_of job before) (live_harts (harts_after job before)))
 
 -- the hart that the schedule names for the next entry
 abbrev pub scheduled : Job → List Entry → ℕ
-scheduled job entries = (turn_of_step (items_of job.schedule) (turn_after job entries) (live_harts (harts_after job entries))).hart
+scheduled job entries = latest_hart (with_current job.schedule (turns_of job entries) (live_harts (harts_after job entries)))

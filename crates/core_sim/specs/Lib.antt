@@ -1,6 +1,7 @@
 pub mod Valid
 pub mod Harts
 pub mod Schedules
+pub mod Turns
 pub mod Start
 pub mod Events
 pub mod Steps

@@ -1,13 +1,24 @@
 -- How the pages of the start come into memory.
-use Rattle.std.specs.Prelude.{◌≡◌, ℕ, ◌/◌, ◌||◌, Bool, true, false, if◌then◌else◌, Option, Some, List, []}
+use Rattle.std.specs.Prelude.{◌≡◌, ℕ, ◌+◌, ◌/◌, ◌≤◌, ◌||◌, Bool, true, false, if◌then◌else◌, Option, Some, List, [], ◌∷◌}
 use Rattle.guest_mem.specs.Bytes.{repaged, marked}
 use Rattle.guest_mem.specs.Image.{PageImage}
-use Rattle.guest_mem.specs.Faults.{EachPage}
-use Rattle.guest_mem.specs.Memory.{bytes, mapped, texts}
+use Rattle.guest_mem.specs.Faults.{EachPage, InRange}
+use Rattle.guest_mem.specs.Memory.{bytes, mapped, texts, count_below}
 use Rattle.pl_event.specs.declared.log.PageRun.{PageRun}
 use Rattle.core_sim.specs.declared.job.Job.{Job}
 use Rattle.core_sim.specs.Entries.{byte_at, is_mapped}
 use Rattle.core_sim.specs.Start.{is_in_runs, is_text}
+
+-- a run of pages can be mapped beside those that are mapped already
+pub record CanMapRun (before : ℕ → Bool) (run : PageRun) : Type 0 where
+  pub in_range : InRange run.first run.count
+  pub free : EachPage before run.first run.count false
+  pub room : count_below before 4096 + run.count ≤ 512
+
+-- runs of pages can be mapped one after the other
+abbrev pub CanMapRuns : (ℕ → Bool) → List PageRun → Type 0
+CanMapRuns before [] = Unit {0}
+CanMapRuns before (run ∷ runs) = CanMapRun before run × CanMapRuns (marked before run.first run.count true) runs
 
 -- a run of pages of zeros was added
 pub record MapsRun (old new : List (Option PageImage)) (run : PageRun) (text : Bool) : Type 0 where

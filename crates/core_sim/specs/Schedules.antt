@@ -1,4 +1,4 @@
--- Which hart takes the next turn, and of how many steps.
+-- How a machine finds the turn of its next step, from the turn that it keeps.
 use Rattle.std.specs.Prelude.{◌≡◌, ◌≢◌, ℕ, ◌<◌, Option, Some, None, ◌+◌, ◌-◌, ◌*◌, ◌/◌, ◌%◌, ◌^◌, ◌&&◌, nat_le, nat_lt, if◌then◌else◌, List, [], ◌∷◌, length, drop, find, unwrap_or, slice_index}
 use Rattle.core_sim.specs.declared.job.Item.{Item}
 use Rattle.core_sim.specs.declared.job.Schedule.{Schedule}

@@ -5,12 +5,18 @@ use Rattle.pl_event.specs.declared.event.Event.{Event}
 use Rattle.core_sim.specs.declared.job.Job.{Job}
 use Rattle.core_sim.specs.declared.group.StepOut.{StepOut}
 use Rattle.core_sim.specs.declared.group.StepOut.TheVariants.{Did, Halted, Limit}
-use Rattle.core_sim.specs.Entries.{Entry, state_after, harts_after, turn_after}
+use Rattle.core_sim.specs.declared.turn.Turn.{Turn}
+use Rattle.core_sim.specs.Entries.{Entry, state_after, harts_after}
 use Rattle.core_sim.specs.Harts.{live_harts}
 use Rattle.core_sim.specs.Image.{MachineImage}
 use Rattle.core_sim.specs.Runs.{IsFront, IsLive}
-use Rattle.core_sim.specs.Schedules.{items_of}
+use Rattle.core_sim.specs.Schedules.{items_of, no_turn, turn_of_step, stepped}
 use Rattle.core_sim.specs.Valid.{IsValidJob}
+
+-- the turn that a machine keeps after these entries, with the steps that are left of it
+abbrev pub turn_after : Job → List Entry → Turn
+turn_after job [] = no_turn job.schedule
+turn_after job (e ∷ before) = stepped (turn_of_step (items_of job.schedule) (turn_after job before) (live_harts (harts_after job before)))
 
 -- the machine is where the run of a valid job is after these entries, which are a front of it
 pub record Stands (job : Job) (entries : List Entry) (machine : MachineImage) : Type 0 where

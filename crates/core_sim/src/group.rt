@@ -1,10 +1,10 @@
 use pl_event::Event;
 use std::marker::Model;
 
-/// How many events each step has that a machine takes now.
+/// How many events a group holds: each instruction of today has exactly one event.
 const HELD: usize = 1;
 
-/// The events of one step, one to four, in order. Room is kept for those that a step has now.
+/// The events of one step, one to four, in order.
 #[derive(Drop)]
 pub struct EventGroup {
     events: [Event; HELD],

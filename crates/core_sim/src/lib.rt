@@ -10,6 +10,8 @@
 //! turns are looked up.
 #![tactic(auto)]
 
+#[cfg(test)]
+mod end_tests;
 mod group;
 mod hart;
 mod job;
@@ -31,3 +33,4 @@ pub use job::{Bytes, Item, Items, Job, Schedule, Words};
 pub use laws::{one_run, valid_events};
 pub use machine::Machine;
 pub use start::start_pages;
+pub use turn::next_draw;

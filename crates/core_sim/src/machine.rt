@@ -1,4 +1,4 @@
-ghost use Rattle.std.specs.Prelude.{◌≡◌, ◌≤◌, ◌<◌, [], List, IfOk, OnErr, length, slice_get, IfSome};
+ghost use Rattle.std.specs.Prelude.{◌≡◌, ◌≤◌, ◌<◌, [], List, IfOk, OnErr, length, slice_get, IfSome, IfNone};
 ghost use Rattle.core_sim.specs.declared.job.Job.{Job};
 ghost use Rattle.core_sim.specs.Entries.{Entry};
 ghost use Rattle.core_sim.specs.Schedules.{items_of};
@@ -95,7 +95,8 @@ impl Machine {
 
     /// Whether a hart of the job goes on, and else how it has ended; `Live` for a number that is none of its harts.
     pub fn outcome(&self, hart: u8) -> HartEnd
-        ensures { IfSome (slice_get self.now.harts hart) (λ standing. result ≡ standing.end) }
+        ensures hart { IfSome (slice_get self.now.harts hart) (λ standing. result ≡ standing.end) }
+        ensures none { IfNone (slice_get self.now.harts hart) (result ≡ HartEnd.Live) }
     {
         match self.harts.get(usize::from(hart)) {
             Some(standing) => standing.end,

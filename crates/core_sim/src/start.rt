@@ -1,10 +1,11 @@
 ghost use Rattle.std.specs.Prelude.{◌≡◌, ◌≤◌, All, IfOk, OnOk};
+ghost use Rattle.guest_mem.specs.Memory.{mapped};
 ghost use Rattle.core_sim.specs.Valid.{IsValidJob};
 ghost use Rattle.core_sim.specs.Start.{start_runs, pages_of, text_bytes};
-ghost use Rattle.core_sim.specs.Mapping.{IsStartMemory, MapsRun, MapsRuns};
+ghost use Rattle.core_sim.specs.Mapping.{IsStartMemory, CanMapRun, CanMapRuns, MapsRun, MapsRuns};
 
 use crate::job::Job;
-use guest_mem::PagedMem;
+use guest_mem::{MapFault, PagedMem};
 use pl_base::NoMemory;
 use pl_event::{PageKind, PageRun};
 use std::alloc::Global;
@@ -67,9 +68,10 @@ pub fn start_memory(alloc: Global, job: &Job) -> Result<PagedMem, NoMemory>
     Ok(mem)
 }
 
-/// Maps runs of pages that are no text.
+/// Maps runs of pages that are no text, one after the other.
 fn map_runs(mem: &mut PagedMem, runs: &[PageRun]) -> Result<(), NoMemory>
     requires some { All (λ run. 1 ≤ run.count) runs.now }
+    requires can { CanMapRuns (mapped mem.old) runs.now }
     ensures { OnOk result (MapsRuns mem.old mem.new runs.now) }
 {
     for run in runs {
@@ -78,15 +80,16 @@ fn map_runs(mem: &mut PagedMem, runs: &[PageRun]) -> Result<(), NoMemory>
     Ok(())
 }
 
-/// Maps a run of pages, of which none is mapped yet.
+/// Maps a run of pages.
 fn map_run(mem: &mut PagedMem, run: PageRun, text: bool) -> Result<(), NoMemory>
-    requires { 1 ≤ run.count }
+    requires some { 1 ≤ run.count }
+    requires can { CanMapRun (mapped mem.old) run }
     ensures { OnOk result (MapsRun mem.old mem.new run text) }
 {
     match mem.map(run.first, run.count, text) {
         Ok(()) => Ok(()),
-        // The runs of a valid job lie apart and in range, so that no other cause comes.
-        Err(_) => Err(NoMemory),
+        Err(MapFault::NoMemory) => Err(NoMemory),
+        Err(MapFault::Range | MapFault::Mapped | MapFault::TooMany) => unreachable!(),
     }
 }
 

@@ -150,8 +150,8 @@ fn listed(items: &[Item], at: usize, harts: &[Standing]) -> Option<Turn>
     around(harts, 1, 0)
 }
 
-/// The number after one of the generator.
-fn next_draw(x: u32) -> u32
+/// The number after `x` of the generator that draws harts and programs: x * 1664525 + 1013904223, modulo 2^32.
+pub fn next_draw(x: u32) -> u32
     ensures { result ≡ drawn x }
 {
     x.wrapping_mul(1_664_525).wrapping_add(1_013_904_223)

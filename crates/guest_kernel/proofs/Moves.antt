@@ -1,14 +1,13 @@
 -- Bytes that a read or a write moves.
-use Rattle.std.proofs.Common.{◌≡◌, ◌==◌, Bool, ℕ, zero, suc, ◌+◌, ◌-◌, ◌<◌, ◌≤◌, inl, inr, false, List, [], ◌∷◌, ◌++◌, length, take, drop, get_or, Option, Some, refl, arith, sym, ap, ◌∙◌, subst, length-append, length-drop, add-zero, unwrap_or, IsSome}
+use Rattle.std.proofs.Common.{◌≡◌, ◌==◌, Bool, ℕ, zero, suc, ◌+◌, ◌-◌, ◌<◌, inl, inr, false, List, [], ◌∷◌, ◌++◌, length, take, drop, get_or, Option, Some, refl, arith, sym, ap, ◌∙◌, subst, length-append, length-drop, add-zero, unwrap_or, IsSome}
 use Rattle.std.proofs.Math.Path.{fun_ext}
-use Rattle.std.proofs.Math.Seq.{get_or-append_right, take-length}
-use Rattle.std.proofs.Math.ListN.{drop_of_length-le}
-use Rattle.std.proofs.lemmas.List.{append-nil, get_or_append_left, get_or-drop}
-use Rattle.std.proofs.lemmas.Bool.{cases_lt, ne_eqb}
+use Rattle.std.proofs.Math.Seq.{take-length}
+use Rattle.std.proofs.lemmas.List.{append-nil, take_all, take_at}
+use Rattle.std.proofs.lemmas.Bool.{ne_eqb}
 use Rattle.guest_mem.specs.Bytes.{written, AllMapped}
 use Rattle.guest_mem.specs.Image.{PageImage}
 use Rattle.guest_mem.specs.Memory.{bytes, mapped, texts}
-use Rattle.guest_mem.proofs.Among.{among, not_among_before, not_among_past, place}
+use Rattle.guest_mem.proofs.Among.{not_among_before, not_among_past, place}
 use Rattle.guest_heap.specs.Blocks.{asked}
 use Rattle.pl_event.specs.declared.event.Kind.{Kind}
 use Rattle.pl_event.specs.declared.event.Kind.TheVariants.{Rd, Wr}
@@ -17,37 +16,6 @@ use Rattle.guest_kernel.specs.Calls.{moved}
 use Rattle.guest_kernel.specs.Image.{KernelImage}
 use Rattle.guest_kernel.specs.Moves.{HoldsAt}
 use Rattle.guest_kernel.specs.State.{State, state_of, after, bytes_from}
-
--- bytes written over memory that already held all behind the first of them
-pub written_front : (start : ℕ → Option ℕ) (at count : ℕ) (front old new : List ℕ) →
-    length front ≡ count → count ≤ length old → ((k : ℕ) → k < length old → start (at + k) ≡ Some (get_or old k 0)) → new ≡ front ++ drop count old →
-    written start at new ≡ written start at front
-written_front start at count front old new long within holds is =
-    let same : length new ≡ length old = omega (arith, ap length is, length-append front (drop count old), length-drop count old) in
-    fun_ext (λ k.
-    elim (place at (length new) k) [
-      | inl (from, under) ↦ elim (cases_lt k (at + length front)) [
-        | inl early ↦
-            let value : get_or new (k - at) 0 ≡ get_or front (k - at) 0 = ap (λ (xs : List ℕ). get_or xs (k - at) 0) is ∙ get_or_append_left front (drop count old) 0 (k - at) (omega arith) in
-            rw (among at (length new) k from under, among at (length front) k from early) (ap Some value)
-        | inr late ↦
-            let place : count + (k - at - length front) ≡ k - at = omega arith in
-            let value : get_or new (k - at) 0 ≡ get_or old (k - at) 0 =
-            ap (λ (xs : List ℕ). get_or xs (k - at) 0) is ∙ get_or-append_right front (drop count old) (k - at) 0 (omega arith) ∙ get_or-drop count old (k - at - length front) 0
-            ∙ ap (λ n. get_or old n 0) place in
-            let address : at + (k - at) ≡ k = omega arith in
-            let held : start k ≡ Some (get_or old (k - at) 0) = ap start (sym address) ∙ holds (k - at) (omega arith) in
-            rw (among at (length new) k from under, not_among_past at (length front) k late) (ap Some value ∙ sym held)
-      ]
-      | inr (inl early) ↦ rw (not_among_before at (length new) k early, not_among_before at (length front) k early) refl
-      | inr (inr past) ↦ rw (not_among_past at (length new) k past, not_among_past at (length front) k (omega arith)) refl
-    ])
-
--- a list after all of it was written over
-pub overwritten_all : (n : ℕ) (xs ys : List ℕ) → length xs ≡ n → length ys ≡ n → take n (xs ++ drop (length xs) ys) ≡ xs
-overwritten_all n xs ys long same =
-    let none : drop (length xs) ys ≡ [] = drop_of_length-le ys (omega arith) in
-    rw none (rw (append-nil, sym long) (take-length xs))
 
 -- nothing is moved
 written_none : (start : ℕ → Option ℕ) (at : ℕ) → written start at [] ≡ start
@@ -83,17 +51,15 @@ unfolding made
 same_state s t b m x l i o = same_made s.bytes t.bytes s.mapped t.mapped s.texts t.texts s.blocks t.blocks s.input t.input s.output t.output b m x l i o
 
 -- the state after a read
-pub after_read : (old new : KernelImage) (at count : ℕ) (before buffer : List ℕ) →
-    bytes new.memory ≡ written (bytes old.memory) at buffer → mapped new.memory ≡ mapped old.memory → texts new.memory ≡ texts old.memory →
-    ((k : ℕ) → k < length before → bytes old.memory (at + k) ≡ Some (get_or before k 0)) →
-    count ≤ length before → length (take count old.input) ≡ count → buffer ≡ take count old.input ++ drop count before →
-    new.heap ≡ old.heap → new.input ≡ drop count old.input → new.output ≡ old.output →
+pub after_read : (old new : KernelImage) (at count : ℕ) (list : List ℕ) →
+    bytes new.memory ≡ written (bytes old.memory) at list → mapped new.memory ≡ mapped old.memory → texts new.memory ≡ texts old.memory →
+    list ≡ take count old.input → new.heap ≡ old.heap → new.input ≡ drop count old.input → new.output ≡ old.output →
     state_of new ≡ after (state_of old) (moved count (Rd at count))
-after_read old new at zero before buffer are mapped_are texts_are holds within long is heap_is input_is output_is =
-    same_state (state_of new) (state_of old) (are ∙ written_front (bytes old.memory) at 0 [] before buffer refl within holds is ∙ written_none (bytes old.memory) at)
+after_read old new at zero list are mapped_are texts_are is heap_is input_is output_is =
+    same_state (state_of new) (state_of old) (are ∙ ap (written (bytes old.memory) at) is ∙ written_none (bytes old.memory) at)
     mapped_are texts_are (ap asked heap_is) input_is output_is
-after_read old new at (suc n) before buffer are mapped_are texts_are holds within long is heap_is input_is output_is =
-    same_state (state_of new) (after (state_of old) (Went (suc n) (Rd at (suc n)))) (are ∙ written_front (bytes old.memory) at (suc n) (take (suc n) old.input) before buffer long within holds is)
+after_read old new at (suc n) list are mapped_are texts_are is heap_is input_is output_is =
+    same_state (state_of new) (after (state_of old) (Went (suc n) (Rd at (suc n)))) (are ∙ ap (written (bytes old.memory) at) is)
     mapped_are texts_are (ap asked heap_is) input_is output_is
     ∙ ap (after (state_of old)) (sym (moved_some (suc n) (Rd at (suc n)) (omega arith)))
 
@@ -121,3 +87,12 @@ mapped_of_list memory at count list holds = λ k from within.
     let place : at + (k - at) ≡ k = omega arith in
     let held : bytes memory k ≡ Some (get_or list (k - at) 0) = ap (bytes memory) (sym place) ∙ holds.each (k - at) (omega arith) in
     subst IsSome (sym held) refl
+
+-- a list with room behind it, after bytes were read into the room
+pub appended : (old room into post tail more : List ℕ) (before count len : ℕ) → before ≡ length old → room ≡ take (before + count) old ++ more → post ≡ [] →
+    length into ≡ count → len ≡ before + count → take len (take before room ++ (into ++ post) ++ tail) ≡ old ++ into
+appended old room into post tail more before count len front_is room_is none long len_is =
+    let whole : take (before + count) old ≡ old = take_all (before + count) old (omega arith) in
+    let front : take before room ≡ old = ap (take before) (room_is ∙ ap (λ (xs : List ℕ). xs ++ more) whole) ∙ take_at old more before (omega arith) in
+    let size : length (old ++ into) ≡ len = omega (arith, length-append old into) in
+    rw (front, none) (rw append-nil (take_at (old ++ into) tail len size))

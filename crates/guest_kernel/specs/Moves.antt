@@ -1,5 +1,5 @@
 -- Bytes of the memory as a list.
-use Rattle.std.specs.Prelude.{◌≡◌, ℕ, ◌+◌, ◌<◌, Option, Some, List, length, slice_index}
+use Rattle.std.specs.Prelude.{◌≡◌, ℕ, ◌+◌, ◌++◌, ◌<◌, Option, Some, List, length, slice_index}
 use Rattle.guest_mem.specs.Image.{PageImage}
 use Rattle.guest_mem.specs.Memory.{bytes}
 
@@ -7,3 +7,9 @@ use Rattle.guest_mem.specs.Memory.{bytes}
 pub record HoldsAt (memory : List (Option PageImage)) (addr count : ℕ) (list : List ℕ) : Type 0 where
   pub long : length list ≡ count
   pub each : (k : ℕ) → k < count → bytes memory (addr + k) ≡ Some (slice_index list k)
+
+-- the bytes from an address on, all of them mapped, stand behind a list
+pub record Appends (memory : List (Option PageImage)) (addr count : ℕ) (old new : List ℕ) : Type 0 where
+  pub moved : List ℕ
+  pub held : HoldsAt memory addr count moved
+  pub new_is : new ≡ old ++ moved

@@ -1,7 +1,8 @@
-ghost use Rattle.std.specs.Prelude.{◌≡◌, ◌^◌, ◌≤◌, ◌++◌, length, take, drop, min, IfOk, OnErr, IfSome, IfNone};
+ghost use Rattle.std.specs.Prelude.{◌≡◌, ◌+◌, ◌^◌, ◌≤◌, length, vec_len, IfOk, OnErr};
+ghost use Rattle.std.specs.Bool.{OnTrue, OnFalse};
 ghost use Rattle.guest_mem.specs.Bytes.{AllMapped};
 ghost use Rattle.guest_mem.specs.Memory.{bytes};
-ghost use Rattle.guest_kernel.specs.Moves.{HoldsAt};
+ghost use Rattle.guest_kernel.specs.Moves.{Appends};
 ghost use Rattle.guest_kernel.specs.Calls.{call_of, IsAnswer, alloc_call, free_call, map_call, unmap_call, read_call, write_call, failure, moved};
 ghost use Rattle.guest_kernel.specs.State.{state_of, started, after};
 ghost use Rattle.guest_kernel.specs.Lending.{LendsMemory};
@@ -31,7 +32,6 @@ const NOTHING: Kind = Kind::Im { rd: 10 };
 /// The kernel of a run.
 #[derive(Drop)]
 pub struct Kernel {
-    alloc: Global,
     mem: PagedMem,
     heap: Heap,
     input: Vec<u8>,
@@ -61,7 +61,6 @@ impl Kernel {
     {
         let heap = Heap::new(alloc)?;
         Ok(Kernel {
-            alloc,
             mem,
             heap,
             input,
@@ -86,7 +85,7 @@ impl Kernel {
             3 => self.free(args),
             4 => self.map(args),
             5 => self.unmap(args),
-            6 => self.read(args),
+            6 => Ok(self.read(args)),
             7 => self.write(args),
             _ => Ok(failed()),
         }
@@ -172,24 +171,19 @@ impl Kernel {
     }
 
     /// Moves the next input bytes, at most a2 of them, to a1.
-    fn read(&mut self, args: CallArgs) -> Result<KernelStep, NoMemory>
-        ensures answer { IfOk result (IsAnswer read_call (state_of self.old) args) }
-        ensures after { IfOk result (λ step. state_of self.new ≡ after (state_of self.old) step) }
-        ensures unchanged { OnErr result (self.new ≡ self.old) }
+    fn read(&mut self, args: CallArgs) -> KernelStep
+        ensures answer { IsAnswer read_call (state_of self.old) args result }
+        ensures after { state_of self.new ≡ after (state_of self.old) result }
     {
-        if args.a2 > MOST_MOVED {
-            return Ok(failed());
+        if args.a2 > MOST_MOVED || !self.mem.can_write(args.a1, args.a2) {
+            return failed();
         }
-        let Some(mut buffer) = bytes_at(self.alloc, &self.mem, args.a1, args.a2)? else {
-            return Ok(failed());
-        };
-        let count = copy_front(&self.input[self.taken..], &mut buffer);
-        let Ok(()) = self.mem.write_bytes(args.a1, &buffer) else {
-            return Ok(failed());
-        };
+        let left = &self.input[self.taken..];
+        let count = left.len().min(args.a2 as usize);
+        self.mem.fill(args.a1, &left[..count]);
         self.taken += count;
         let len = count as u32;
-        Ok(moved(len, Kind::Rd { addr: args.a1, len }))
+        moved(len, Kind::Rd { addr: args.a1, len })
     }
 
     /// Moves a2 bytes from a1 to the output.
@@ -204,10 +198,9 @@ impl Kernel {
         if self.output.len() + args.a2 as usize > MOST_OUTPUT {
             return Ok(failed());
         }
-        let Some(buffer) = bytes_at(self.alloc, &self.mem, args.a1, args.a2)? else {
+        if !append_bytes(&self.mem, args.a1, args.a2, &mut self.output)? {
             return Ok(failed());
-        };
-        self.output.extend_from_slice(&buffer)?;
+        }
         let len = args.a2;
         Ok(moved(len, Kind::Wr { addr: args.a1, len }))
     }
@@ -235,29 +228,22 @@ fn moved(count: u32, kind: Kind) -> KernelStep
     went(count, kind)
 }
 
-/// The bytes from an address on, so many of them; none exactly where one lies on no mapped page.
-fn bytes_at(
-    alloc: Global,
-    mem: &PagedMem,
-    addr: u32,
-    count: u32,
-) -> Result<Option<Vec<u8>>, NoMemory>
-    ensures some { IfOk result (λ found. IfSome found (λ list. HoldsAt mem.now addr count list.items)) }
-    ensures none { IfOk result (λ found. IfNone found (AllMapped (bytes mem.now) addr count → ⊥)) }
+/// Appends the bytes from an address on, so many of them, to a list, and says whether all of them are mapped. The list
+/// stays where they are not, and where no memory was left.
+fn append_bytes(mem: &PagedMem, addr: u32, count: u32, list: &mut Vec<u8>) -> Result<bool, NoMemory>
+    requires { vec_len list.old + count ≤ 2 ^ 21 }
+    ensures moved { IfOk result (λ all. OnTrue all (Appends mem.now addr count list.old.items list.new.items)) }
+    ensures none { IfOk result (λ all. OnFalse all (AllMapped (bytes mem.now) addr count → ⊥)) }
+    ensures kept { IfOk result (λ all. OnFalse all (list.new.items ≡ list.old.items)) }
+    ensures unchanged { OnErr result (list.new.items ≡ list.old.items) }
 {
-    let mut list = vec![in alloc; 0; count as usize]?;
-    match mem.read_bytes(addr, &mut list) {
-        Ok(()) => Ok(Some(list)),
-        Err(_) => Ok(None),
+    let before = list.len();
+    list.resize(before + count as usize, 0)?;
+    match mem.read_bytes(addr, &mut list[before..]) {
+        Ok(()) => Ok(true),
+        Err(_) => {
+            list.truncate(before);
+            Ok(false)
+        }
     }
-}
-
-/// Copies as many of the first bytes as `into` has to its front; says how many.
-fn copy_front(from: &[u8], into: &mut [u8]) -> usize
-    ensures count { result ≡ min (length into.old) (length from.now) }
-    ensures bytes { into.new ≡ take result from.now ++ drop result into.old }
-{
-    let count = into.len().min(from.len());
-    into[..count].copy_from_slice(&from[..count]);
-    count
 }

@@ -7,6 +7,8 @@
 #![tactic(auto)]
 
 mod call;
+#[cfg(test)]
+mod failure_tests;
 mod kernel;
 mod pages;
 #[cfg(test)]

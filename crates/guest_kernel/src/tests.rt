@@ -5,7 +5,7 @@ use std::alloc::Global;
 use std::test::Fail;
 
 /// A kernel with a page of text at 10000 hex, two pages at 100000, and six bytes to come.
-fn kernel(alloc: Global) -> Result<Kernel, Fail> {
+pub fn kernel(alloc: Global) -> Result<Kernel, Fail> {
     let mut mem = PagedMem::new(alloc)?;
     mem.map(16, 1, true)?;
     mem.map(256, 2, false)?;
@@ -13,11 +13,11 @@ fn kernel(alloc: Global) -> Result<Kernel, Fail> {
     Ok(Kernel::new(alloc, mem, input)?)
 }
 
-fn call(kernel: &mut Kernel, a7: u32, a0: u32, a1: u32, a2: u32) -> Result<KernelStep, Fail> {
+pub fn call(kernel: &mut Kernel, a7: u32, a0: u32, a1: u32, a2: u32) -> Result<KernelStep, Fail> {
     Ok(kernel.call(CallArgs { a7, a0, a1, a2 })?)
 }
 
-fn went(a0: u32, kind: Kind) -> KernelStep {
+pub fn went(a0: u32, kind: Kind) -> KernelStep {
     KernelStep::Went { a0, kind }
 }
 

@@ -2,8 +2,17 @@ use Rattle.std.proofs.Common.{◌≡◌, ℕ, List, length, ap, sym, ◌∙◌, 
 use Rattle.guest_mem.specs.Bytes.{written, AllMapped}
 use Rattle.guest_mem.specs.Memory.{bytes}
 use Rattle.core_sim.specs.Start.{text_bytes}
+use Rattle.core_sim.proofs.Roomy.{can_text, can_others}
 use Rattle.core_sim.proofs.Starts.{StartPages, start_pages_are, filled, text_is_mapped}
 use Rattle.core_sim.proofs.start.start_memory.Goals as goal
+
+pub map_run-requires-clause-can : goal.map_run-requires-clause-can
+map_run-requires-clause-can c =
+    can_text c.args.job.now _ _ _ c.requires c.in_ok-mem.ensures.mapped c.in_ok-runs.ensures (c.index.ensures)
+
+pub map_runs-requires-clause-can : goal.map_runs-requires-clause-can
+map_runs-requires-clause-can c =
+    can_others c.args.job.now _ _ _ _ _ c.requires c.in_ok-mem.ensures.mapped c.in_ok-runs.ensures c.deref.ensures.value c.index.ensures c.in_ok-map_run.ensures
 
 pub fill-requires : goal.fill-requires
 fill-requires c =

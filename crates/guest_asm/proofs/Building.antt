@@ -7,7 +7,8 @@ use Rattle.guest_asm.specs.declared.cause.JobCause.{JobCause}
 use Rattle.guest_asm.specs.declared.cause.JobCause.TheVariants as cause
 use Rattle.guest_asm.specs.declared.cause.JobFault.{JobFault}
 use Rattle.guest_asm.specs.declared.number.Number.{Number}
-use Rattle.guest_asm.specs.Jobs.{Placed, Cell, raw, AreCells, Appends, IsTextOf, fault_at, placed, statement_cells, on_line, target, row_cells, second_pass, ◌>>=◌}
+use Rattle.guest_asm.specs.Faults.{target}
+use Rattle.guest_asm.specs.Jobs.{Placed, Cell, raw, AreCells, Appends, IsTextOf, fault_at, placed, statement_cells, on_line, row_cells, second_pass, ◌>>=◌}
 
 pub AreCells-append : (a b : List Cell) (xs ys : List ℕ) → AreCells a xs → AreCells b ys → AreCells (a ++ b) (xs ++ ys)
 AreCells-append [] b [] ys h k = k

@@ -1,5 +1,5 @@
 -- How many words and bytes a job has.
-use Rattle.std.proofs.Common.{◌≡◌, ℕ, ◌+◌, ◌*◌, Bool, true, false, cond, List, [], ◌∷◌, ◌++◌, length, map, fold, Option, Some, None, Result, Ok, Err, refl, ap, ◌∙◌, arith, w32, ℤ, ◌^◌}
+use Rattle.std.proofs.Common.{◌≡◌, ℕ, ◌+◌, ◌*◌, Bool, true, false, cond, List, [], ◌∷◌, ◌++◌, length, map, fold, Option, Some, None, Result, Ok, Err, refl, ap, ◌∙◌, sym, arith, w32, ℤ, ◌^◌}
 use Rattle.std.specs.List.{flat_map}
 use Rattle.std.specs.Option.{option_map}
 use Rattle.std.specs.Int.{to_le_bytes}
@@ -18,7 +18,8 @@ use Rattle.guest_asm.specs.declared.scan.Section.{Section}
 use Rattle.guest_asm.specs.declared.scan.Place.{Place}
 use Rattle.guest_asm.specs.Lines.{Meaning}
 use Rattle.guest_asm.specs.Rules.{is_text, is_data, words_of, bytes_of, code_words, after, after_statement, after_optional, text_address}
-use Rattle.guest_asm.specs.Jobs.{Placed, Cell, raw, coded, AreCells, near, offset, instructions, statement_cells, row_cells, on_line, target, second_pass, rows_from, row_with, data_of, ◌>>=◌}
+use Rattle.guest_asm.specs.Faults.{target}
+use Rattle.guest_asm.specs.Jobs.{Placed, Cell, raw, coded, AreCells, near, offset, instructions, statement_cells, row_cells, on_line, second_pass, rows_from, row_with, data_of, ◌>>=◌}
 
 pub length-cells : (cells : List Cell) (words : List ℕ) → AreCells cells words → length words ≡ length cells
 length-cells [] [] h = refl
@@ -37,8 +38,8 @@ code-length at to (code.Jump rd) cells e = near_one (λ off. instr.Jal rd off) (
 code-length at to (code.Branch o rs1 rs2) cells e = near_one (λ off. instr.Branch o rs1 rs2 off) (offset (2 ^ 12) at to) cells e
 code-length at to (code.Address rd) cells e = let same : cells ≡ coded (lui_of rd to) ∷ coded (addi_of rd to) ∷ [] = cc in ap length same
 
-if_length : {X Y : Type 0} (t : Bool) (n : ℕ) (f : X → Y) (xs : List X) → n ≡ length xs → length (cond t (map f xs) []) ≡ cond t (1 * n) 0
-if_length true n f xs e = length-map xs f ∙ omega (arith, e)
+if_length : {X Y : Type 0} (t : Bool) (n : ℕ) (f : X → Y) (xs : List X) → n ≡ length xs → length (cond t (map f xs) []) ≡ cond t n 0
+if_length true n f xs e = length-map xs f ∙ sym e
 if_length false n f xs e = refl
 
 abbrev nothing : {E : Type 0} → Result (List Cell) E
@@ -123,7 +124,7 @@ if_four false numbers = refl
 
 data-length : (line at : ℕ) (s : Option Section) (named : Option (List ℕ)) (x : Statement) → length (data_of (record { line = line; at = at; section = s; statement = x; named = named })) ≡ bytes_of s x
 data-length line at s named (statement.Word numbers) = if_four (is_data s) numbers
-data-length line at s named (statement.Byte numbers) = omega (arith, length-map numbers (λ (n : Number). n.bits))
+data-length line at s named (statement.Byte numbers) = length-map numbers (λ (n : Number). n.bits)
 data-length line at s named (statement.Space n) = length-replicate n.bits 0
 data-length line at s named (statement.Code c) = refl
 data-length line at s named (statement.Harts n) = refl

@@ -9,7 +9,12 @@ pub mod Pairs
 pub mod Lengths
 pub mod Validity
 pub mod Labels
+pub mod Faults
+pub mod Verdicts
 pub mod Whole
 pub mod One
 pub mod Generating
 pub mod Generated
+pub mod Constants
+pub mod Listed
+pub mod Named

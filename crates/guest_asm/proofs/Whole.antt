@@ -17,6 +17,7 @@ use Rattle.guest_asm.specs.Scans.{defined, Keeps}
 use Rattle.guest_asm.proofs.Scanning.{statements-kept}
 use Rattle.guest_asm.proofs.Sound.{Passed, passed, small_from}
 use Rattle.guest_asm.proofs.Validity.{some_schedule, some_steps, valid_job}
+use Rattle.guest_asm.proofs.Verdicts.{passes_err}
 
 pub if_ok : {T E : Type 0} (P Q : T → Type 0) (r : Result T E) → ((x : T) → P x → Q x) → IfOk r P → IfOk r Q
 if_ok P Q (Ok x) f h = f x h
@@ -79,15 +80,11 @@ module _ (bytes : List ℕ) (scan : Scan) (lines : List Meaning) (told : first_p
 
   pub fault_of : (fault : JobFault) → second_pass (defined scan.labels) (map placed scan.rows.items) ≡ Err fault → HasFault bytes fault
   fault_of fault e =
-      then_second (Err fault)
+      passes_err bytes fault
+      (then_second (Err fault)
       (ap (λ (labels : List (List ℕ × ℕ)). second_pass labels (rows_of lines)) (sym keeps.labels)
-      ∙ ap (λ (rows : List Placed). second_pass (defined scan.labels) rows) (sym keeps.rows) ∙ e)
+      ∙ ap (λ (rows : List Placed). second_pass (defined scan.labels) rows) (sym keeps.rows) ∙ e))
 
 pub first_fault : (bytes : List ℕ) (fault : JobFault) → first_pass [] (lines_of bytes) ≡ Err fault → HasFault bytes fault
-first_fault bytes fault e = ap (λ (o : Result (List Meaning) JobFault). o >>= λ ls. second_pass (labels_of ls) (rows_of ls) >>= λ cells. Ok ls) e
-
--- a text with a fault is no job
-pub no_job : (bytes : List ℕ) (fault : JobFault) → HasFault bytes fault → (job : Job) → IsJobText bytes job → ⊥
-no_job bytes fault has job text =
-    let both : Err fault ≡ Ok text.lines = sym has ∙ text.passed in
-    absurd cc
+first_fault bytes fault e =
+    passes_err bytes fault (ap (λ (o : Result (List Meaning) JobFault). o >>= λ ls. second_pass (labels_of ls) (rows_of ls) >>= λ cells. Ok ls) e)

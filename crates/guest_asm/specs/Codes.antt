@@ -1,5 +1,5 @@
 -- The instructions of a text: mnemonics with their operands, and the pseudo-instructions.
-use Rattle.std.specs.Prelude.{ℕ, ◌+◌, ◌/◌, ◌%◌, ◌^◌, List, [], ◌∷◌, map, codes, find, Option, Some, None, unwrap_or, if◌then◌else◌, ℤ, pos}
+use Rattle.std.specs.Prelude.{ℕ, ◌/◌, ◌%◌, ◌^◌, List, [], ◌∷◌, map, codes, find, Option, Some, None, unwrap_or, if◌then◌else◌, ℤ, pos, ◌-ℤ◌, unsigned_abs}
 use Rattle.std.specs.Option.{option_map, option_copied}
 use Rattle.std.specs.Borrow.{Bor}
 use Rattle.std.specs.Str.{bytes_eq}
@@ -70,13 +70,13 @@ IsValidCode (code.Jump rd) = IsValid (instr.Jal rd (pos 0))
 IsValidCode (code.Branch o rs1 rs2) = IsValid (instr.Branch o rs1 rs2 (pos 0))
 IsValidCode (code.Address rd) = IsValid (instr.Jal rd (pos 0))
 
--- the instruction that writes the bits from 12 up of a value, so that the low part makes up the rest
-abbrev pub upper_part : ℕ → ℕ
-upper_part value = (value + 2 ^ 11) / 2 ^ 12 % 2 ^ 20
-
 -- the low 12 bits as a signed number
 abbrev pub low_part : ℕ → ℤ
 low_part value = signed (2 ^ 11) (value % 2 ^ 12)
+
+-- the number of 20 bits above it: a value less its low part, which is a multiple of 4096 and not below 0, by 4096
+abbrev pub upper_part : ℕ → ℕ
+upper_part value = unsigned_abs (pos value -ℤ low_part value) / 2 ^ 12 % 2 ^ 20
 
 abbrev pub lui_of : ℕ → ℕ → Instr
 lui_of rd value = instr.Lui rd (upper_part value)

@@ -1,5 +1,5 @@
 -- The job that a text spells, or its first fault.
-use Rattle.std.specs.Prelude.{◌≡◌, ℕ, ◌+◌, ◌-◌, ◌%◌, ◌^◌, ◌<◌, Bool, not, ◌==◌, ◌||◌, nat_lt, List, [], ◌∷◌, ◌++◌, length, map, fold, replicate, slice_set, All, Option, Some, None, IfSome, unwrap_or, Result, Ok, Err, if◌then◌else◌, pos, ◌-ℤ◌, ℤ}
+use Rattle.std.specs.Prelude.{◌≡◌, ◌⊎◌, ℕ, ◌+◌, ◌^◌, ◌<◌, List, [], ◌∷◌, ◌++◌, length, map, fold, replicate, slice_set, All, Option, Some, None, IfSome, unwrap_or, Result, Ok, Err, if◌then◌else◌, pos, ◌-ℤ◌, ℤ}
 use Rattle.std.specs.List.{flat_map}
 use Rattle.std.specs.Option.{option_map, option_copied}
 use Rattle.std.specs.Int.{to_le_bytes, w32}
@@ -27,7 +27,8 @@ use Rattle.guest_asm.specs.declared.cause.JobRefused.TheVariants as refused
 use Rattle.guest_asm.specs.Texts.{lines_of}
 use Rattle.guest_asm.specs.Codes.{lui_of, addi_of}
 use Rattle.guest_asm.specs.Lines.{Meaning, line_of}
-use Rattle.guest_asm.specs.Rules.{is_text, is_data, harts_in, statements_of, start, after, place_of, text_address, labels_of, address_of, broken, lacks}
+use Rattle.guest_asm.specs.Rules.{is_text, is_data, harts_in, statements_of, start, after, place_of, text_address, labels_of, broken, lacks}
+use Rattle.guest_asm.specs.Faults.{is_far, target, IsFirstPassFault, IsSecondPassFault}
 
 infixl 10 ◌>>=◌
 abbrev pub ◌>>=◌ : {A B E : Type 0} → Result A E → (A → Result B E) → Result B E
@@ -86,10 +87,6 @@ rows_from line place (m ∷ lines) = row_with line place m.named m.statement ++ 
 abbrev pub rows_of : List Meaning → List Placed
 rows_of lines = rows_from 1 start lines
 
--- further back than it reaches, further ahead than two bytes less, or at an odd distance
-abbrev pub is_far : ℕ → ℕ → ℕ → Bool
-is_far reach at to = nat_lt (to + reach) at || nat_lt (at + (reach - 2)) to || not (at % 2 == to % 2)
-
 abbrev pub offset : ℕ → ℕ → ℕ → Option ℤ
 offset reach at to = if is_far reach at to then None else Some (pos to -ℤ pos at)
 
@@ -133,11 +130,6 @@ abbrev pub statement_cells : Placed → ℕ → Statement → Result (List Cell)
 statement_cells r to (statement.Word numbers) = Ok (if is_text r.section then map (λ n. raw n.bits) numbers else [])
 statement_cells r to (statement.Code c) = near (instructions r.at to c)
 statement_cells r to _ = Ok []
-
--- the address of the label that a statement names; one that names none has 0
-abbrev pub target : List (List ℕ × ℕ) → Option (List ℕ) → Option ℕ
-target labels None = Some 0
-target labels (Some name) = address_of labels name
 
 abbrev pub row_cells : Placed → Option ℕ → Result (List Cell) JobCause
 row_cells r None = Err cause.Label
@@ -226,9 +218,9 @@ pub record IsJobText (bytes : List ℕ) (job : Job) : Type 0 where
   pub passed : passes bytes ≡ Ok lines
   pub job_of : IsJobOfRows (labels_of lines) (rows_of lines) (statements_of lines) job
 
--- the text has this fault
+-- the text is no job, by this fault of one of the passes
 abbrev pub HasFault : List ℕ → JobFault → Type 0
-HasFault bytes fault = passes bytes ≡ Err fault
+HasFault bytes fault = IsFirstPassFault bytes fault ⊎ IsSecondPassFault bytes fault
 
 -- what holds of the fault of a refusal
 abbrev pub IfFault : {T : Type 0} → Result T JobRefused → (JobFault → Type 0) → Type 0

@@ -5,6 +5,7 @@ pub mod Codes
 pub mod Statements
 pub mod Lines
 pub mod Rules
+pub mod Faults
 pub mod Jobs
 pub mod Scans
 pub mod Listing

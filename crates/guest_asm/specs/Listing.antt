@@ -1,6 +1,6 @@
 -- The listing of a job's text.
-use Rattle.std.specs.Prelude.{ℕ, ◌+◌, ◌-◌, ◌^◌, false, List, [], ◌∷◌, ◌++◌, codes, Option, Some, None}
-use Rattle.std.specs.Fmt.{digits, padded_integral, format_spec}
+use Rattle.std.specs.Prelude.{ℕ, ◌+◌, ◌-◌, ◌^◌, true, false, List, [], ◌∷◌, ◌++◌, length, replicate, codes, Option, Some, None}
+use Rattle.std.specs.Fmt.{digits, padded_integral}
 use Rattle.rv_isa.specs.declared.instruction.Instr.{Instr}
 use Rattle.rv_isa.specs.Table.{instruction_of}
 use Rattle.rv_isa.specs.Listing.{text}
@@ -9,9 +9,14 @@ use Rattle.core_sim.specs.declared.job.Job.{Job}
 abbrev pub hex : ℕ → List ℕ
 hex n = digits 16 false n
 
--- a word in eight hex digits, with zeros before it, as `{:08x}` writes it
+-- a word in hex digits, with zeros before them up to eight
 abbrev pub eight_digits : ℕ → List ℕ
-eight_digits n = padded_integral (format_spec 32 0 4 8 (2 ^ 64 - 1)) false [] (hex n)
+eight_digits n =
+    padded_integral (record { fill = 32; align = 0; plus = false; alternate = false; zero = true; width = 8; precision = 2 ^ 64 - 1 }) false [] (hex n)
+
+-- that is as many zeros as its digits are short of eight, and its digits
+abbrev pub zeros_and_digits : ℕ → List ℕ
+zeros_and_digits n = replicate (8 - length (hex n)) 48 ++ hex n
 
 abbrev pub shown_or_word : Option Instr → List ℕ
 shown_or_word (Some i) = text i

@@ -1,5 +1,5 @@
 -- The operands of instructions: registers, immediates, addresses and labels.
-use Rattle.std.specs.Prelude.{ℕ, ◌+◌, ◌-◌, ◌^◌, Bool, false, not, ◌==◌, ◌&&◌, ◌||◌, nat_lt, nat_le, List, [], ◌∷◌, length, take, slice_index, codes, Option, Some, None, option_and_then, if◌then◌else◌, ℤ, pos, ◌≤ℤ◌, ◌<ℤ◌, ◌-ℤ◌}
+use Rattle.std.specs.Prelude.{◌≡◌, ℕ, ◌+◌, ◌-◌, ◌^◌, Bool, false, not, ◌==◌, ◌&&◌, ◌||◌, nat_lt, nat_le, List, [], ◌∷◌, length, map, take, slice_index, codes, Option, Some, None, option_and_then, if◌then◌else◌, ℤ, pos, ◌≤ℤ◌, ◌<ℤ◌, ◌-ℤ◌}
 use Rattle.std.specs.List.{list_all, before_first, after_first}
 use Rattle.std.specs.Str.{bytes_eq}
 use Rattle.guest_asm.specs.declared.number.Number.{Number}
@@ -33,6 +33,27 @@ register_of word =
     else (if bytes_eq word (codes "gp") then Some 3
     else (if bytes_eq word (codes "tp") then Some 4
     else (if bytes_eq word (codes "fp") then Some 8 else family word)))))
+
+-- the names of the registers with their numbers
+abbrev pub named_registers : List (List ℕ × ℕ)
+named_registers =
+    (codes "zero", 0) ∷ (codes "ra", 1) ∷ (codes "sp", 2) ∷ (codes "gp", 3) ∷ (codes "tp", 4) ∷ (codes "t0", 5) ∷ (codes "t1", 6) ∷ (codes "t2", 7) ∷
+    (codes "s0", 8) ∷ (codes "fp", 8) ∷ (codes "s1", 9) ∷ (codes "a0", 10) ∷ (codes "a1", 11) ∷ (codes "a2", 12) ∷ (codes "a3", 13) ∷ (codes "a4", 14) ∷
+    (codes "a5", 15) ∷ (codes "a6", 16) ∷ (codes "a7", 17) ∷ (codes "s2", 18) ∷ (codes "s3", 19) ∷ (codes "s4", 20) ∷ (codes "s5", 21) ∷
+    (codes "s6", 22) ∷ (codes "s7", 23) ∷ (codes "s8", 24) ∷ (codes "s9", 25) ∷ (codes "s10", 26) ∷ (codes "s11", 27) ∷ (codes "t3", 28) ∷
+    (codes "t4", 29) ∷ (codes "t5", 30) ∷ (codes "t6", 31) ∷ []
+
+abbrev pub numbered_registers : List (List ℕ × ℕ)
+numbered_registers =
+    (codes "x0", 0) ∷ (codes "x1", 1) ∷ (codes "x2", 2) ∷ (codes "x3", 3) ∷ (codes "x4", 4) ∷ (codes "x5", 5) ∷ (codes "x6", 6) ∷ (codes "x7", 7) ∷
+    (codes "x8", 8) ∷ (codes "x9", 9) ∷ (codes "x10", 10) ∷ (codes "x11", 11) ∷ (codes "x12", 12) ∷ (codes "x13", 13) ∷ (codes "x14", 14) ∷
+    (codes "x15", 15) ∷ (codes "x16", 16) ∷ (codes "x17", 17) ∷ (codes "x18", 18) ∷ (codes "x19", 19) ∷ (codes "x20", 20) ∷ (codes "x21", 21) ∷
+    (codes "x22", 22) ∷ (codes "x23", 23) ∷ (codes "x24", 24) ∷ (codes "x25", 25) ∷ (codes "x26", 26) ∷ (codes "x27", 27) ∷ (codes "x28", 28) ∷
+    (codes "x29", 29) ∷ (codes "x30", 30) ∷ (codes "x31", 31) ∷ []
+
+-- each of the names is that of its register
+abbrev pub AreNames : List (List ℕ × ℕ) → Type 0
+AreNames names = map (λ r. register_of r.0) names ≡ map (λ r. Some r.1) names
 
 unfoldable pub register_in : List ℕ → Option ℕ
 register_in part = option_and_then register_of (word_in part)

@@ -130,14 +130,14 @@ code_words (code.Address rd) = 2
 
 -- how many words a statement puts into the text
 abbrev pub words_of : Option Section → Statement → ℕ
-words_of s (statement.Word numbers) = if is_text s then 1 * length numbers else 0
+words_of s (statement.Word numbers) = if is_text s then length numbers else 0
 words_of s (statement.Code c) = code_words c
 words_of s _ = 0
 
 -- how many bytes a statement puts into data
 abbrev pub bytes_of : Option Section → Statement → ℕ
 bytes_of s (statement.Word numbers) = if is_data s then 4 * length numbers else 0
-bytes_of s (statement.Byte numbers) = 1 * length numbers
+bytes_of s (statement.Byte numbers) = length numbers
 bytes_of s (statement.Space n) = n.bits
 bytes_of s _ = 0
 

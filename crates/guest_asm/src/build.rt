@@ -5,11 +5,13 @@ ghost use Rattle.std.specs.List.{flat_map};
 ghost use Rattle.rv_isa.specs.Valid.{IsValid};
 ghost use Rattle.guest_asm.specs.Codes.{IsValidCode};
 ghost use Rattle.guest_asm.specs.Rules.{statements_in, harts_in, is_text, is_data};
-ghost use Rattle.guest_asm.specs.Jobs.{placed, raw, offset, instructions, AreValid, target, second_cell, near, statement_cells, on_line, second_pass, Appends, IsTextOf, IsSmall, IsSmallRow, data_of, input_in, item_of, schedule_in, steps_in, first_of, entry_in, entries_of, IsJobOfRows, IsDrawn, IfFault};
+ghost use Rattle.guest_asm.specs.Faults.{target};
+ghost use Rattle.guest_asm.specs.Jobs.{placed, raw, offset, instructions, AreValid, second_cell, near, statement_cells, on_line, second_pass, Appends, IsTextOf, IsSmall, IsSmallRow, data_of, input_in, item_of, schedule_in, steps_in, first_of, entry_in, entries_of, IsJobOfRows, IsDrawn, IfFault};
 ghost use Rattle.guest_asm.specs.Scans.{defined, IsValidRow};
 
-use crate::cause::{JobCause, JobFault, JobRefused};
+use crate::cause::{JobCause, JobRefused, refused};
 use crate::code::{Code, addi_of, lui_of};
+use crate::layout::TEXT;
 use crate::number::Number;
 use crate::rules::harts_in;
 use crate::scan::{Row, Scan, Section};
@@ -84,12 +86,6 @@ fn target(labels: &IndexMap<&[u8], u32>, named: Option<&[u8]>) -> Option<u32>
         Some(name) => labels.get(name).copied(),
         None => Some(0),
     }
-}
-
-fn refused(line: u32, cause: JobCause) -> JobRefused
-    ensures { result ≡ JobRefused.Fault (record { line = line; cause = cause }) }
-{
-    JobRefused::Fault(JobFault { line, cause })
 }
 
 fn push_numbers(words: &mut Vec<u32>, numbers: &[Number]) -> Result<(), AllocError>
@@ -366,7 +362,7 @@ fn entries(labels: &IndexMap<&[u8], u32>, rows: &[Row<'_>]) -> [u32; 8]
     requires { All IsSmallRow rows.now }
     ensures { result ≡ entries_of (defined labels.now) (map placed rows.now) }
 {
-    let mut entries = [0x0001_0000; 8];
+    let mut entries = [TEXT; 8];
     'rows: for row in rows {
         let to = target(labels, row.named).unwrap_or(0);
         enter(&mut entries, &row.statement, to);

@@ -7,7 +7,7 @@ ghost use Rattle.guest_asm.specs.Texts.{is_blank, is_legal, skip_blanks, word_in
 use std::alloc::{AllocError, Global};
 
 /// Whether a word is this text.
-pub fn is(word: &[u8], text: &str) -> bool
+pub fn is_word(word: &[u8], text: &str) -> bool
     ensures { result ≡ bytes_eq word.now text.now }
 {
     word == text.as_bytes()

@@ -1,3 +1,5 @@
+ghost use Rattle.std.specs.Prelude.{◌≡◌};
+
 use pl_base::NoMemory;
 use std::alloc::{AllocError, AllocFailed};
 
@@ -40,6 +42,13 @@ pub struct JobFault {
 pub enum JobRefused {
     Fault(JobFault),
     NoMemory,
+}
+
+/// The refusal of a text by the cause that was found at a line.
+pub fn refused(line: u32, cause: JobCause) -> JobRefused
+    ensures { result ≡ JobRefused.Fault (record { line = line; cause = cause }) }
+{
+    JobRefused::Fault(JobFault { line, cause })
 }
 
 impl From<NoMemory> for JobRefused {

@@ -5,7 +5,7 @@ ghost use Rattle.rv_isa.specs.Table.{row, op_imm};
 ghost use Rattle.rv_isa.specs.Valid.{IsValid, IsWithin};
 ghost use Rattle.guest_asm.specs.Codes.{Coded, coded, texts, alone, full_fence, IsValidCode, lui_of, addi_of, upper_part, low_part, constant, branch_code, load_code, store_code, immediate_code, shift_code, register_code, lui_code, auipc_code, jal_code, jalr_code, li_code, la_code, mv_code, j_code, zero_code, bare_code, pseudo_code, other_code, code_of};
 
-use crate::bytes::is;
+use crate::bytes::is_word;
 use crate::mnemonic::{
     base_named, branch_named, immediate_named, load_named, multiply_named, shift_named, store_named,
 };
@@ -19,7 +19,9 @@ use rv_isa::{BranchOp, ImmOp, Instr, RegOp};
 /// What an instruction of a text is, but for the address of the label that it names.
 #[derive(Clone, Copy)]
 pub enum Code {
+    /// One instruction.
     One(Instr),
+    /// Two instructions, one behind the other: `lui` and `addi` of a number.
     Two(Instr, Instr),
     /// `jal` to the label.
     Jump { rd: u8 },
@@ -41,6 +43,7 @@ fn alone<'a>(instr: Instr) -> Option<Coded<'a>>
 }
 
 /// The instruction that sets a register to the upper part of a value.
+#[tactic(auto, using(crate::proofs::Constants::upper))]
 pub fn lui_of(rd: u8, value: u32) -> Instr
     requires { rd < 32 }
     ensures value { result ≡ lui_of rd value }
@@ -78,12 +81,12 @@ fn branch_code<'a>(op: BranchOp, parts: &[&'a [u8]]) -> Option<Coded<'a>>
     ensures value { option_map coded result ≡ branch_code op (texts parts.now) }
     ensures valid { IfSome result (λ r. IsValidCode r.0) }
 {
-    let [a, b, l] = parts else {
+    let [left, right, place] = parts else {
         return None;
     };
-    let rs1 = register_in(a)?;
-    let rs2 = register_in(b)?;
-    let label = label_in(l)?;
+    let rs1 = register_in(left)?;
+    let rs2 = register_in(right)?;
+    let label = label_in(place)?;
     Some((Code::Branch { op, rs1, rs2 }, Some(label)))
 }
 
@@ -92,11 +95,11 @@ fn load_code<'a>(width: LoadWidth, parts: &[&'a [u8]]) -> Option<Coded<'a>>
     ensures value { option_map coded result ≡ load_code width (texts parts.now) }
     ensures valid { IfSome result (λ r. IsValidCode r.0) }
 {
-    let [a, m] = parts else {
+    let [register, memory] = parts else {
         return None;
     };
-    let rd = register_in(a)?;
-    let (imm, rs1) = address_in(m)?;
+    let rd = register_in(register)?;
+    let (imm, rs1) = address_in(memory)?;
     alone(Instr::Load {
         width,
         rd,
@@ -110,11 +113,11 @@ fn store_code<'a>(width: StoreWidth, parts: &[&'a [u8]]) -> Option<Coded<'a>>
     ensures value { option_map coded result ≡ store_code width (texts parts.now) }
     ensures valid { IfSome result (λ r. IsValidCode r.0) }
 {
-    let [a, m] = parts else {
+    let [register, memory] = parts else {
         return None;
     };
-    let rs2 = register_in(a)?;
-    let (imm, rs1) = address_in(m)?;
+    let rs2 = register_in(register)?;
+    let (imm, rs1) = address_in(memory)?;
     alone(Instr::Store {
         width,
         rs2,
@@ -129,12 +132,12 @@ fn immediate_code<'a>(op: ImmOp, parts: &[&'a [u8]]) -> Option<Coded<'a>>
     ensures value { option_map coded result ≡ immediate_code op (texts parts.now) }
     ensures valid { IfSome result (λ r. IsValidCode r.0) }
 {
-    let [a, b, n] = parts else {
+    let [target, source, number] = parts else {
         return None;
     };
-    let rd = register_in(a)?;
-    let rs1 = register_in(b)?;
-    let imm = immediate_in(n)?;
+    let rd = register_in(target)?;
+    let rs1 = register_in(source)?;
+    let imm = immediate_in(number)?;
     alone(Instr::OpImm { op, rd, rs1, imm })
 }
 
@@ -144,12 +147,12 @@ fn shift_code<'a>(op: ImmOp, parts: &[&'a [u8]]) -> Option<Coded<'a>>
     ensures value { option_map coded result ≡ shift_code op (texts parts.now) }
     ensures valid { IfSome result (λ r. IsValidCode r.0) }
 {
-    let [a, b, n] = parts else {
+    let [target, source, amount] = parts else {
         return None;
     };
-    let rd = register_in(a)?;
-    let rs1 = register_in(b)?;
-    let imm = shift_in(n)?;
+    let rd = register_in(target)?;
+    let rs1 = register_in(source)?;
+    let imm = shift_in(amount)?;
     alone(Instr::OpImm { op, rd, rs1, imm })
 }
 
@@ -158,12 +161,12 @@ fn register_code<'a>(op: RegOp, parts: &[&'a [u8]]) -> Option<Coded<'a>>
     ensures value { option_map coded result ≡ register_code op (texts parts.now) }
     ensures valid { IfSome result (λ r. IsValidCode r.0) }
 {
-    let [a, b, c] = parts else {
+    let [target, left, right] = parts else {
         return None;
     };
-    let rd = register_in(a)?;
-    let rs1 = register_in(b)?;
-    let rs2 = register_in(c)?;
+    let rd = register_in(target)?;
+    let rs1 = register_in(left)?;
+    let rs2 = register_in(right)?;
     alone(Instr::Op { op, rd, rs1, rs2 })
 }
 
@@ -172,11 +175,11 @@ fn lui_code<'a>(parts: &[&'a [u8]]) -> Option<Coded<'a>>
     ensures value { option_map coded result ≡ lui_code (texts parts.now) }
     ensures valid { IfSome result (λ r. IsValidCode r.0) }
 {
-    let [a, n] = parts else {
+    let [target, number] = parts else {
         return None;
     };
-    let rd = register_in(a)?;
-    let imm = upper_in(n)?;
+    let rd = register_in(target)?;
+    let imm = upper_in(number)?;
     alone(Instr::Lui { rd, imm })
 }
 
@@ -185,11 +188,11 @@ fn auipc_code<'a>(parts: &[&'a [u8]]) -> Option<Coded<'a>>
     ensures value { option_map coded result ≡ auipc_code (texts parts.now) }
     ensures valid { IfSome result (λ r. IsValidCode r.0) }
 {
-    let [a, n] = parts else {
+    let [target, number] = parts else {
         return None;
     };
-    let rd = register_in(a)?;
-    let imm = upper_in(n)?;
+    let rd = register_in(target)?;
+    let imm = upper_in(number)?;
     alone(Instr::Auipc { rd, imm })
 }
 
@@ -198,11 +201,11 @@ fn jal_code<'a>(parts: &[&'a [u8]]) -> Option<Coded<'a>>
     ensures value { option_map coded result ≡ jal_code (texts parts.now) }
     ensures valid { IfSome result (λ r. IsValidCode r.0) }
 {
-    let [a, l] = parts else {
+    let [link, place] = parts else {
         return None;
     };
-    let rd = register_in(a)?;
-    let label = label_in(l)?;
+    let rd = register_in(link)?;
+    let label = label_in(place)?;
     Some((Code::Jump { rd }, Some(label)))
 }
 
@@ -211,11 +214,11 @@ fn jalr_code<'a>(parts: &[&'a [u8]]) -> Option<Coded<'a>>
     ensures value { option_map coded result ≡ jalr_code (texts parts.now) }
     ensures valid { IfSome result (λ r. IsValidCode r.0) }
 {
-    let [a, m] = parts else {
+    let [link, memory] = parts else {
         return None;
     };
-    let rd = register_in(a)?;
-    let (imm, rs1) = address_in(m)?;
+    let rd = register_in(link)?;
+    let (imm, rs1) = address_in(memory)?;
     alone(Instr::Jalr { rd, rs1, imm })
 }
 
@@ -241,11 +244,11 @@ fn li_code<'a>(parts: &[&'a [u8]]) -> Option<Coded<'a>>
     ensures value { option_map coded result ≡ li_code (texts parts.now) }
     ensures valid { IfSome result (λ r. IsValidCode r.0) }
 {
-    let [a, n] = parts else {
+    let [target, value] = parts else {
         return None;
     };
-    let rd = register_in(a)?;
-    let number = number_in(n)?;
+    let rd = register_in(target)?;
+    let number = number_in(value)?;
     Some((constant(rd, number), None))
 }
 
@@ -254,11 +257,11 @@ fn la_code<'a>(parts: &[&'a [u8]]) -> Option<Coded<'a>>
     ensures value { option_map coded result ≡ la_code (texts parts.now) }
     ensures valid { IfSome result (λ r. IsValidCode r.0) }
 {
-    let [a, l] = parts else {
+    let [target, place] = parts else {
         return None;
     };
-    let rd = register_in(a)?;
-    let label = label_in(l)?;
+    let rd = register_in(target)?;
+    let label = label_in(place)?;
     Some((Code::Address { rd }, Some(label)))
 }
 
@@ -267,11 +270,11 @@ fn mv_code<'a>(parts: &[&'a [u8]]) -> Option<Coded<'a>>
     ensures value { option_map coded result ≡ mv_code (texts parts.now) }
     ensures valid { IfSome result (λ r. IsValidCode r.0) }
 {
-    let [a, b] = parts else {
+    let [target, source] = parts else {
         return None;
     };
-    let rd = register_in(a)?;
-    let rs1 = register_in(b)?;
+    let rd = register_in(target)?;
+    let rs1 = register_in(source)?;
     alone(Instr::OpImm {
         op: ImmOp::Addi,
         rd,
@@ -285,10 +288,10 @@ fn j_code<'a>(parts: &[&'a [u8]]) -> Option<Coded<'a>>
     ensures value { option_map coded result ≡ j_code (texts parts.now) }
     ensures valid { IfSome result (λ r. IsValidCode r.0) }
 {
-    let [l] = parts else {
+    let [place] = parts else {
         return None;
     };
-    let label = label_in(l)?;
+    let label = label_in(place)?;
     Some((Code::Jump { rd: 0 }, Some(label)))
 }
 
@@ -297,11 +300,11 @@ fn zero_code<'a>(op: BranchOp, parts: &[&'a [u8]]) -> Option<Coded<'a>>
     ensures value { option_map coded result ≡ zero_code op (texts parts.now) }
     ensures valid { IfSome result (λ r. IsValidCode r.0) }
 {
-    let [a, l] = parts else {
+    let [register, place] = parts else {
         return None;
     };
-    let rs1 = register_in(a)?;
-    let label = label_in(l)?;
+    let rs1 = register_in(register)?;
+    let label = label_in(place)?;
     Some((Code::Branch { op, rs1, rs2: 0 }, Some(label)))
 }
 
@@ -319,28 +322,28 @@ fn pseudo_code<'a>(name: &[u8], parts: &[&'a [u8]]) -> Option<Coded<'a>>
     ensures value { option_map coded result ≡ pseudo_code name.now (texts parts.now) }
     ensures valid { IfSome result (λ r. IsValidCode r.0) }
 {
-    if is(name, "li") {
+    if is_word(name, "li") {
         return li_code(parts);
     }
-    if is(name, "la") {
+    if is_word(name, "la") {
         return la_code(parts);
     }
-    if is(name, "mv") {
+    if is_word(name, "mv") {
         return mv_code(parts);
     }
-    if is(name, "nop") {
+    if is_word(name, "nop") {
         return bare_code(nop(), parts);
     }
-    if is(name, "j") {
+    if is_word(name, "j") {
         return j_code(parts);
     }
-    if is(name, "ret") {
+    if is_word(name, "ret") {
         return bare_code(ret(), parts);
     }
-    if is(name, "beqz") {
+    if is_word(name, "beqz") {
         return zero_code(BranchOp::Beq, parts);
     }
-    if is(name, "bnez") {
+    if is_word(name, "bnez") {
         return zero_code(BranchOp::Bne, parts);
     }
     None
@@ -381,22 +384,22 @@ fn other_code<'a>(name: &[u8], parts: &[&'a [u8]]) -> Option<Coded<'a>>
     ensures value { option_map coded result ≡ other_code name.now (texts parts.now) }
     ensures valid { IfSome result (λ r. IsValidCode r.0) }
 {
-    if is(name, "lui") {
+    if is_word(name, "lui") {
         return lui_code(parts);
     }
-    if is(name, "auipc") {
+    if is_word(name, "auipc") {
         return auipc_code(parts);
     }
-    if is(name, "jal") {
+    if is_word(name, "jal") {
         return jal_code(parts);
     }
-    if is(name, "jalr") {
+    if is_word(name, "jalr") {
         return jalr_code(parts);
     }
-    if is(name, "fence") {
+    if is_word(name, "fence") {
         return bare_code(full_fence(), parts);
     }
-    if is(name, "ecall") {
+    if is_word(name, "ecall") {
         return bare_code(Instr::Ecall, parts);
     }
     pseudo_code(name, parts)

@@ -4,7 +4,7 @@ ghost use Rattle.guest_asm.specs.Codes.{texts, code_of};
 ghost use Rattle.guest_asm.specs.Numbers.{number_in};
 ghost use Rattle.guest_asm.specs.Statements.{all_some, numbers_in, turn_of, turn_in, round_robin, seed, list_schedule, schedule_of, pair_at, hex_pairs, one_word, input_of, entry_of, number_of_one, bare, named, plain_statement, statement_of, seen, IsValidStatement};
 
-use crate::bytes::{cut_at, cut_at_blank, is, skip_blanks, word_in};
+use crate::bytes::{cut_at, cut_at_blank, is_word, skip_blanks, word_in};
 use crate::code::code_of;
 use crate::number::{Number, digits_of, number_in, number_of};
 use crate::operand::label_in;
@@ -119,16 +119,16 @@ fn schedule_of(alloc: Global, parts: &[&[u8]]) -> Result<Option<Statement>, Allo
         return Ok(None);
     };
     let (kind, rest) = cut_at_blank(skip_blanks(first));
-    if is(kind, "list") {
+    if is_word(kind, "list") {
         return Ok(list(alloc, rest, others)?);
     }
     if !others.is_empty() {
         return Ok(None);
     }
-    if is(kind, "rr") {
+    if is_word(kind, "rr") {
         return Ok(round_robin(rest));
     }
-    if is(kind, "seed") {
+    if is_word(kind, "seed") {
         return Ok(seed(rest));
     }
     Ok(None)
@@ -252,22 +252,22 @@ fn plain_statement<'a>(name: &[u8], parts: &[&'a [u8]]) -> Option<Said<'a>>
     ensures value { option_map seen result ≡ plain_statement name.now (texts parts.now) }
     ensures valid { IfSome result (λ r. IsValidStatement r.0) }
 {
-    if is(name, ".harts") {
+    if is_word(name, ".harts") {
         return named(harts(number_of_one(parts)));
     }
-    if is(name, ".steps") {
+    if is_word(name, ".steps") {
         return named(steps(number_of_one(parts)));
     }
-    if is(name, ".entry") {
+    if is_word(name, ".entry") {
         return entry_of(parts);
     }
-    if is(name, ".text") {
+    if is_word(name, ".text") {
         return named(bare(Statement::Text, parts));
     }
-    if is(name, ".data") {
+    if is_word(name, ".data") {
         return named(bare(Statement::Data, parts));
     }
-    if is(name, ".space") {
+    if is_word(name, ".space") {
         return named(space(number_of_one(parts)));
     }
     instruction(name, parts)
@@ -323,16 +323,16 @@ pub fn statement_of<'a>(
     ensures value { IfOk result (λ found. option_map seen found ≡ statement_of name.now (texts parts.now)) }
     ensures valid { IfOk result (λ found. IfSome found (λ r. IsValidStatement r.0)) }
 {
-    if is(name, ".schedule") {
+    if is_word(name, ".schedule") {
         return Ok(named(schedule_of(alloc, parts)?));
     }
-    if is(name, ".input") {
+    if is_word(name, ".input") {
         return Ok(named(input_of(alloc, parts)?));
     }
-    if is(name, ".word") {
+    if is_word(name, ".word") {
         return Ok(named(words(numbers_in(alloc, parts)?)));
     }
-    if is(name, ".byte") {
+    if is_word(name, ".byte") {
         return Ok(named(bytes(numbers_in(alloc, parts)?)));
     }
     Ok(plain_statement(name, parts))

@@ -9,16 +9,11 @@ ghost use Rattle.guest_asm.specs.Generated.{choice, drawn_after, action_at, setu
 
 use crate::action::{A0, A7, S0, S1, action_numbered, add_to, push_action, set_to};
 use crate::code::{addi_of, lui_of};
-use core_sim::{Bytes, Job, Schedule, Words};
+use crate::layout::{DATA, TEXT};
+use core_sim::{Bytes, Job, Schedule, Words, next_draw};
 use pl_base::NoMemory;
 use rv_isa::{Instr, encode};
 use std::alloc::{AllocError, Global};
-
-/// Where text begins.
-const TEXT: u32 = 0x0001_0000;
-
-/// Where data begins.
-const DATA: u32 = 0x0010_0000;
 
 /// How many bytes of data there are.
 const DATA_BYTES: usize = 256;
@@ -41,13 +36,6 @@ struct Drawing {
     /// The number of the last draw.
     x: u32,
     code: Vec<Instr>,
-}
-
-/// The number after one of the generator.
-fn next_draw(x: u32) -> u32
-    ensures { result ≡ drawn x }
-{
-    x.wrapping_mul(1_664_525).wrapping_add(1_013_904_223)
 }
 
 /// One of `count` numbers from 0 on, by the number of a draw.

@@ -13,10 +13,16 @@ mod cause;
 mod code;
 mod directive;
 #[cfg(test)]
+mod fault_tests;
+#[cfg(test)]
 mod generated_tests;
 mod generator;
+mod laws;
+mod layout;
 mod line;
 mod list;
+#[cfg(test)]
+mod listing_tests;
 mod mnemonic;
 mod number;
 mod operand;
@@ -29,5 +35,6 @@ mod tests;
 
 pub use cause::{JobCause, JobFault, JobRefused};
 pub use generator::generate;
+pub use laws::{eight_digits, one_fault, register_names};
 pub use list::listing;
 pub use read::read_job;

@@ -2,6 +2,7 @@ ghost use Rattle.std.specs.Prelude.{◌≡◌, ◌≤◌, ◌++◌, length, IfOk
 ghost use Rattle.core_sim.specs.Valid.{IsValidJob};
 ghost use Rattle.guest_asm.specs.Listing.{word_text, line_text, lines_from, listing_of};
 
+use crate::layout::TEXT;
 use core_sim::Job;
 use pl_base::NoMemory;
 use rv_isa::{decode, render};
@@ -30,7 +31,7 @@ fn lines(alloc: Global, words: &[u32]) -> Result<String, NoMemory>
     ensures { IfOk result (λ shown. string_bytes shown ≡ lines_from 65536 words.now) }
 {
     let mut out = String::new(alloc);
-    let mut address = 0x0001_0000u32;
+    let mut address = TEXT;
     'words: for word in words {
         push_line(&mut out, alloc, address, *word)?;
         address += 4;

@@ -3,7 +3,7 @@ ghost use Rattle.rv_isa.specs.Fields.{I, Shift};
 ghost use Rattle.rv_isa.specs.Table.{row, op_imm};
 ghost use Rattle.guest_asm.specs.Codes.{branch_named, load_named, store_named, immediate_named, shift_named, base_named, multiply_named};
 
-use crate::bytes::is;
+use crate::bytes::is_word;
 use pl_base::{LoadWidth, StoreWidth};
 use rv_isa::{BranchOp, ImmOp, RegOp};
 
@@ -12,22 +12,22 @@ use rv_isa::{BranchOp, ImmOp, RegOp};
 pub fn branch_named(name: &[u8]) -> Option<BranchOp>
     ensures { result ≡ branch_named name.now }
 {
-    if is(name, "beq") {
+    if is_word(name, "beq") {
         return Some(BranchOp::Beq);
     }
-    if is(name, "bne") {
+    if is_word(name, "bne") {
         return Some(BranchOp::Bne);
     }
-    if is(name, "blt") {
+    if is_word(name, "blt") {
         return Some(BranchOp::Blt);
     }
-    if is(name, "bge") {
+    if is_word(name, "bge") {
         return Some(BranchOp::Bge);
     }
-    if is(name, "bltu") {
+    if is_word(name, "bltu") {
         return Some(BranchOp::Bltu);
     }
-    if is(name, "bgeu") {
+    if is_word(name, "bgeu") {
         return Some(BranchOp::Bgeu);
     }
     None
@@ -38,19 +38,19 @@ pub fn branch_named(name: &[u8]) -> Option<BranchOp>
 pub fn load_named(name: &[u8]) -> Option<LoadWidth>
     ensures { result ≡ load_named name.now }
 {
-    if is(name, "lb") {
+    if is_word(name, "lb") {
         return Some(LoadWidth::B);
     }
-    if is(name, "lh") {
+    if is_word(name, "lh") {
         return Some(LoadWidth::H);
     }
-    if is(name, "lw") {
+    if is_word(name, "lw") {
         return Some(LoadWidth::W);
     }
-    if is(name, "lbu") {
+    if is_word(name, "lbu") {
         return Some(LoadWidth::Bu);
     }
-    if is(name, "lhu") {
+    if is_word(name, "lhu") {
         return Some(LoadWidth::Hu);
     }
     None
@@ -61,13 +61,13 @@ pub fn load_named(name: &[u8]) -> Option<LoadWidth>
 pub fn store_named(name: &[u8]) -> Option<StoreWidth>
     ensures { result ≡ store_named name.now }
 {
-    if is(name, "sb") {
+    if is_word(name, "sb") {
         return Some(StoreWidth::B);
     }
-    if is(name, "sh") {
+    if is_word(name, "sh") {
         return Some(StoreWidth::H);
     }
-    if is(name, "sw") {
+    if is_word(name, "sw") {
         return Some(StoreWidth::W);
     }
     None
@@ -79,22 +79,22 @@ pub fn immediate_named(name: &[u8]) -> Option<ImmOp>
     ensures value { result ≡ immediate_named name.now }
     ensures form { IfSome result (λ o. (row (op_imm o)).form ≡ I) }
 {
-    if is(name, "addi") {
+    if is_word(name, "addi") {
         return Some(ImmOp::Addi);
     }
-    if is(name, "slti") {
+    if is_word(name, "slti") {
         return Some(ImmOp::Slti);
     }
-    if is(name, "sltiu") {
+    if is_word(name, "sltiu") {
         return Some(ImmOp::Sltiu);
     }
-    if is(name, "xori") {
+    if is_word(name, "xori") {
         return Some(ImmOp::Xori);
     }
-    if is(name, "ori") {
+    if is_word(name, "ori") {
         return Some(ImmOp::Ori);
     }
-    if is(name, "andi") {
+    if is_word(name, "andi") {
         return Some(ImmOp::Andi);
     }
     None
@@ -106,13 +106,13 @@ pub fn shift_named(name: &[u8]) -> Option<ImmOp>
     ensures value { result ≡ shift_named name.now }
     ensures form { IfSome result (λ o. (row (op_imm o)).form ≡ Shift) }
 {
-    if is(name, "slli") {
+    if is_word(name, "slli") {
         return Some(ImmOp::Slli);
     }
-    if is(name, "srli") {
+    if is_word(name, "srli") {
         return Some(ImmOp::Srli);
     }
-    if is(name, "srai") {
+    if is_word(name, "srai") {
         return Some(ImmOp::Srai);
     }
     None
@@ -123,34 +123,34 @@ pub fn shift_named(name: &[u8]) -> Option<ImmOp>
 pub fn base_named(name: &[u8]) -> Option<RegOp>
     ensures { result ≡ base_named name.now }
 {
-    if is(name, "add") {
+    if is_word(name, "add") {
         return Some(RegOp::Add);
     }
-    if is(name, "sll") {
+    if is_word(name, "sll") {
         return Some(RegOp::Sll);
     }
-    if is(name, "slt") {
+    if is_word(name, "slt") {
         return Some(RegOp::Slt);
     }
-    if is(name, "sltu") {
+    if is_word(name, "sltu") {
         return Some(RegOp::Sltu);
     }
-    if is(name, "xor") {
+    if is_word(name, "xor") {
         return Some(RegOp::Xor);
     }
-    if is(name, "srl") {
+    if is_word(name, "srl") {
         return Some(RegOp::Srl);
     }
-    if is(name, "or") {
+    if is_word(name, "or") {
         return Some(RegOp::Or);
     }
-    if is(name, "and") {
+    if is_word(name, "and") {
         return Some(RegOp::And);
     }
-    if is(name, "sub") {
+    if is_word(name, "sub") {
         return Some(RegOp::Sub);
     }
-    if is(name, "sra") {
+    if is_word(name, "sra") {
         return Some(RegOp::Sra);
     }
     None
@@ -161,28 +161,28 @@ pub fn base_named(name: &[u8]) -> Option<RegOp>
 pub fn multiply_named(name: &[u8]) -> Option<RegOp>
     ensures { result ≡ multiply_named name.now }
 {
-    if is(name, "mul") {
+    if is_word(name, "mul") {
         return Some(RegOp::Mul);
     }
-    if is(name, "mulh") {
+    if is_word(name, "mulh") {
         return Some(RegOp::Mulh);
     }
-    if is(name, "mulhsu") {
+    if is_word(name, "mulhsu") {
         return Some(RegOp::Mulhsu);
     }
-    if is(name, "mulhu") {
+    if is_word(name, "mulhu") {
         return Some(RegOp::Mulhu);
     }
-    if is(name, "div") {
+    if is_word(name, "div") {
         return Some(RegOp::Div);
     }
-    if is(name, "divu") {
+    if is_word(name, "divu") {
         return Some(RegOp::Divu);
     }
-    if is(name, "rem") {
+    if is_word(name, "rem") {
         return Some(RegOp::Rem);
     }
-    if is(name, "remu") {
+    if is_word(name, "remu") {
         return Some(RegOp::Remu);
     }
     None

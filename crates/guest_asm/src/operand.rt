@@ -4,7 +4,7 @@ ghost use Rattle.std.specs.List.{list_all};
 ghost use Rattle.rv_isa.specs.Valid.{IsWithin};
 ghost use Rattle.guest_asm.specs.Operands.{member, family, register_of, register_in, immediate_of, immediate_in, shift_in, upper_in, offset_of, closed, address_in, is_label_start, is_label_byte, is_label, label_of, label_in, IsShift};
 
-use crate::bytes::{cut_at, is, word_in};
+use crate::bytes::{cut_at, is_word, word_in};
 use crate::number::{Number, decimal_of, number_in, number_of};
 
 /// The register that a letter and a number name.
@@ -51,22 +51,22 @@ pub fn register_of(word: &[u8]) -> Option<u8>
     ensures value { result ≡ register_of word.now }
     ensures below { IfSome result (λ r. r < 32) }
 {
-    if is(word, "zero") {
+    if is_word(word, "zero") {
         return Some(0);
     }
-    if is(word, "ra") {
+    if is_word(word, "ra") {
         return Some(1);
     }
-    if is(word, "sp") {
+    if is_word(word, "sp") {
         return Some(2);
     }
-    if is(word, "gp") {
+    if is_word(word, "gp") {
         return Some(3);
     }
-    if is(word, "tp") {
+    if is_word(word, "tp") {
         return Some(4);
     }
-    if is(word, "fp") {
+    if is_word(word, "fp") {
         return Some(8);
     }
     family(word)

@@ -202,14 +202,10 @@ fn code_words(code: Code) -> u128
     }
 }
 
-fn count_if(counted: bool, numbers: &[Number], each: u8) -> u128
-    ensures { result ≡ (if counted then each * length numbers.now else 0) }
+fn count_if(counted: bool, count: u128) -> u128
+    ensures { result ≡ (if counted then count else 0) }
 {
-    if counted {
-        u128::from(each) * numbers.len() as u128
-    } else {
-        0
-    }
+    if counted { count } else { 0 }
 }
 
 /// How many words a statement puts into the text.
@@ -218,7 +214,10 @@ pub fn words_of(section: Option<Section>, statement: &Statement) -> u128
     ensures small { result < 2 ^ 72 }
 {
     match statement {
-        Statement::Word(numbers) => count_if(section == Some(Section::Text), numbers.as_slice(), 1),
+        Statement::Word(numbers) => count_if(
+            section == Some(Section::Text),
+            numbers.as_slice().len() as u128,
+        ),
         Statement::Code(code) => code_words(*code),
         _ => 0,
     }
@@ -230,8 +229,11 @@ pub fn bytes_of(section: Option<Section>, statement: &Statement) -> u128
     ensures small { result < 2 ^ 72 }
 {
     match statement {
-        Statement::Word(numbers) => count_if(section == Some(Section::Data), numbers.as_slice(), 4),
-        Statement::Byte(numbers) => count_if(true, numbers.as_slice(), 1),
+        Statement::Word(numbers) => count_if(
+            section == Some(Section::Data),
+            4 * numbers.as_slice().len() as u128,
+        ),
+        Statement::Byte(numbers) => numbers.as_slice().len() as u128,
         Statement::Space(count) => u128::from(count.bits),
         _ => 0,
     }

@@ -4,11 +4,12 @@ ghost use Rattle.guest_asm.specs.Texts.{lines_of};
 ghost use Rattle.guest_asm.specs.Statements.{IsValidStatement};
 ghost use Rattle.guest_asm.specs.Lines.{Meaning, shown, IsValidLine};
 ghost use Rattle.guest_asm.specs.Rules.{address_in, section_after, after_statement, after_optional, overfills, on_statement, is_again, address_of, label_with, broken};
-ghost use Rattle.guest_asm.specs.Jobs.{placed, row_with, first_pass, IfFault};
+ghost use Rattle.guest_asm.specs.Jobs.{placed, row_with, first_pass, HasFault, IfFault};
 ghost use Rattle.guest_asm.specs.Scans.{defined, IsValidRow, Keeps};
 
 use crate::bytes::cut_at;
-use crate::cause::{JobCause, JobFault, JobRefused};
+use crate::cause::{JobCause, JobRefused, refused};
+use crate::layout::{DATA, TEXT};
 use crate::line::{Line, line_of};
 use crate::rules::{broken_at, bytes_of, is_incomplete, words_of};
 use crate::statement::Statement;
@@ -56,9 +57,9 @@ fn address(place: Place) -> u32
     ensures { result ≡ address_in place }
 {
     if place.section == Some(Section::Data) {
-        0x0010_0000 + place.bytes
+        DATA + place.bytes
     } else {
-        0x0001_0000 + 4 * place.words
+        TEXT + 4 * place.words
     }
 }
 
@@ -84,12 +85,6 @@ fn after_statement(place: Place, statement: &Statement) -> Place
         words: words as u32,
         bytes: bytes as u32,
     }
-}
-
-fn refused(line: u32, cause: JobCause) -> JobRefused
-    ensures { result ≡ JobRefused.Fault (record { line = line; cause = cause }) }
-{
-    JobRefused::Fault(JobFault { line, cause })
 }
 
 /// Whether a label is defined already.
@@ -145,7 +140,7 @@ fn push_row<'a>(
     if let Some(statement) = statement {
         rows.push(Row {
             line,
-            at: 0x0001_0000 + 4 * place.words,
+            at: TEXT + 4 * place.words,
             section: place.section,
             statement,
             named,
@@ -220,7 +215,7 @@ impl<'a> Scan<'a> {
 pub fn first_pass(alloc: Global, bytes: &[u8]) -> Result<Scan<'_>, JobRefused>
     requires { length bytes.now < 2 ^ 31 }
     ensures ok { IfOk result (λ scan. (before : List Meaning) × (first_pass [] (lines_of bytes.now) ≡ Ok before) × Keeps before scan) }
-    ensures fault { IfFault result (λ fault. first_pass [] (lines_of bytes.now) ≡ Err fault) }
+    ensures fault { IfFault result (HasFault bytes.now) }
 {
     let mut scan = Scan::new(alloc);
     let mut rest = bytes;

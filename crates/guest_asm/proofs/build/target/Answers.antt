@@ -1,7 +1,7 @@
 use Rattle.std.proofs.Common.{◌∙◌, ap, sym, ℕ, List, Option}
 use Rattle.std.specs.Borrow.{Bor}
 use Rattle.std.specs.Option.{option_copied}
-use Rattle.guest_asm.specs.Jobs.{target}
+use Rattle.guest_asm.specs.Faults.{target}
 use Rattle.guest_asm.specs.Scans.{defined}
 use Rattle.guest_asm.proofs.Labels.{looked-up}
 use Rattle.guest_asm.proofs.build.target.Goals as goal

@@ -1,4 +1,6 @@
-use Rattle.guest_asm.proofs.Whole.{small, few_harts, has_schedule, has_steps, if_ok, if_ok_both, if_fault, text_of, valid_of, fault_of, no_job}
+use Rattle.std.proofs.Common.{rules}
+use Rattle.guest_asm.proofs.Whole.{small, few_harts, has_schedule, has_steps, if_ok, if_ok_both, if_fault, text_of, valid_of, fault_of}
+use Rattle.guest_asm.proofs.Verdicts.{fault_no_job}
 use Rattle.guest_asm.proofs.One.{one_job}
 use Rattle.guest_asm.proofs.read.read_job.Goals as goal
 
@@ -31,4 +33,7 @@ returns-clause-one c =
 pub returns-clause-none : goal.returns-clause-none
 returns-clause-none c =
     let k = c.in_ok-scan.ensures.ok in
-    if_fault _ _ c.build.result (λ fault e. no_job c.args.bytes.now fault (fault_of c.args.bytes.now c.in_ok-scan.scan k.0 k.1 k.2 fault e)) c.build.ensures.fault
+    fault_no_job c.args.bytes.now c.build.result (if_fault _ _ c.build.result (fault_of c.args.bytes.now c.in_ok-scan.scan k.0 k.1 k.2) c.build.ensures.fault)
+
+pub returns-in_err-scan-clause-none : goal.returns-in_err-scan-clause-none
+returns-in_err-scan-clause-none c = fault_no_job c.args.bytes.now c.from_residual.result (search rules)

@@ -3,3 +3,4 @@ pub mod PlayLemmas
 pub mod Refusals
 pub mod RowLemmas
 pub mod RunLemmas
+pub mod Inputs

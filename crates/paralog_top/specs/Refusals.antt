@@ -1,5 +1,6 @@
 -- Why a command has no answer to its input.
-use Rattle.std.specs.Prelude.{List, ℕ}
+use Rattle.std.specs.Prelude.{List, ℕ, Option}
+use Rattle.pl_base.specs.Fronts.{TakesFront}
 use Rattle.guest_asm.specs.declared.cause.JobFault.{JobFault}
 use Rattle.guest_asm.specs.Jobs.{HasFault}
 use Rattle.log_text.specs.declared.cause.LogFault.{LogFault}
@@ -8,6 +9,8 @@ use Rattle.paralog_top.specs.declared.command.Command.{Command}
 use Rattle.paralog_top.specs.declared.command.Command.TheVariants as command
 use Rattle.paralog_top.specs.declared.refused.Refused.{Refused}
 use Rattle.paralog_top.specs.declared.refused.Refused.TheVariants as refused
+use Rattle.paralog_top.specs.Defined.{limit_of}
+use Rattle.paralog_top.specs.Endings.{ReadWhole}
 
 -- the command reads a log, and the bytes are no well-formed one: this is the first line that breaks a rule
 abbrev pub IsBadLog : Command → List ℕ → LogFault → Type 0
@@ -15,13 +18,14 @@ IsBadLog (command.Replay guard) bytes fault = IsNoLog bytes fault
 IsBadLog (command.Probe guard) bytes fault = IsNoLog bytes fault
 IsBadLog _ bytes fault = ⊥
 
--- the command reads a job, and the bytes are none: this is the first line with a fault
+-- the command reads a job, and the bytes are none: this is the lowest line at which a pass finds a fault
 abbrev pub IsBadJob : Command → List ℕ → JobFault → Type 0
 IsBadJob command.Run bytes fault = HasFault bytes fault
 IsBadJob command.List bytes fault = HasFault bytes fault
 IsBadJob _ bytes fault = ⊥
 
-abbrev pub IsRefused : Command → List ℕ → Refused → Type 0
-IsRefused command bytes (refused.Log fault) = IsBadLog command bytes fault
-IsRefused command bytes (refused.Job fault) = IsBadJob command bytes fault
-IsRefused command bytes refused.NoMemory = Unit {0}
+-- the source was read whole and is no input of the command, or was not read whole
+abbrev pub IsRefused : Command → Option (List ℕ) → Option (List ℕ) → Refused → Type 0
+IsRefused command old new (refused.Log fault) = ReadWhole old new (limit_of command) (λ bytes. IsBadLog command bytes fault)
+IsRefused command old new (refused.Job fault) = ReadWhole old new (limit_of command) (λ bytes. IsBadJob command bytes fault)
+IsRefused command old new (refused.Read end) = TakesFront end old new (limit_of command)

@@ -1,6 +1,8 @@
-ghost use Rattle.std.specs.Prelude.{◌≡◌, ◌<◌, ◌^◌, [], All, false, length, map, string_bytes, IfOk, IfErr};
+ghost use Rattle.std.specs.Prelude.{◌≡◌, [], All, false, map, string_bytes, IfOk, IfErr, IsErrOf};
+ghost use Rattle.pl_base.specs.Causes.{Rose};
 ghost use Rattle.paralog_top.specs.Commands.{names_of as names_of_words};
 ghost use Rattle.paralog_top.specs.Defined.{IsAnswer, IsReplay, IsProbed, limit_of};
+ghost use Rattle.paralog_top.specs.Endings.{ReadWhole};
 ghost use Rattle.paralog_top.specs.Runs.{IsRunTold, IsListing};
 ghost use Rattle.paralog_top.specs.Refusals.{IsRefused};
 
@@ -12,7 +14,8 @@ use crate::replay::replay;
 use crate::run::run;
 use guest_asm::JobRefused;
 use lifeguard::Name;
-use log_text::LogRefused;
+use log_text::{LogEnd, LogRefused};
+use pl_base::{ReadEnd, Source, read_all};
 use replay_probes::Probe;
 use std::alloc::Global;
 
@@ -29,94 +32,98 @@ pub struct Answer {
     pub reported: bool,
 }
 
-/// How many bytes of input the command takes.
-pub fn input_limit(command: Command) -> u32
-    ensures { result ≡ limit_of command }
-{
-    match command {
-        Command::Replay(_) | Command::Probe(_) => LOG_LIMIT,
-        Command::Run | Command::List => JOB_LIMIT,
-    }
-}
-
-/// The command's answer to its input, which may name probes, with these probes.
-pub fn make_answer(
+/// The command's answer to the input that the source has, with these probes; the words may name some of them.
+pub fn answer_to<S: Source>(
     alloc: Global,
     command: Command,
     words: &[String],
     probes: Vec<Box<dyn Probe>>,
-    bytes: &[u8],
+    source: &mut S,
 ) -> Result<Answer, Refused>
-    requires short { length bytes.now < 2 ^ 31 }
     requires fresh { All (λ p. has_seen p []) probes.items }
-    ensures ok { IfOk result (λ answer. IsAnswer (map (λ p. meaning p) probes.items) (names_of_words (map string_bytes words.now)) command bytes.now answer.text.items answer.reported) }
-    ensures refused { IfErr result (IsRefused command bytes.now) }
+    ensures ok { IfOk result (λ answer. ReadWhole (S.left source.old) (S.left source.new) (limit_of command) (λ bytes.
+        IsAnswer (map (λ p. meaning p) probes.items) (names_of_words (map string_bytes words.now)) command bytes answer.text.items answer.reported)) }
+    ensures refused { IfErr result (IsRefused command (S.left source.old) (S.left source.new)) }
+    ensures fault { IsErrOf result (Refused.Read ReadEnd.Fault) → Rose (S.faults source.old) (S.faults source.new) }
 {
     match command {
-        Command::Replay(guard) => replay_answer(alloc, guard, bytes),
-        Command::Probe(guard) => probe_answer(alloc, guard, words, probes, bytes),
-        Command::Run => run_answer(alloc, bytes),
-        Command::List => list_answer(alloc, bytes),
+        Command::Replay(guard) => replay_answer(alloc, guard, source),
+        Command::Probe(guard) => probe_answer(alloc, guard, words, probes, source),
+        Command::Run => run_answer(alloc, source),
+        Command::List => list_answer(alloc, source),
     }
 }
 
-fn replay_answer(alloc: Global, guard: Name, bytes: &[u8]) -> Result<Answer, Refused>
-    requires { length bytes.now < 2 ^ 31 }
-    ensures ok { IfOk result (λ answer. IsReplay guard bytes.now answer.text.items answer.reported) }
-    ensures refused { IfErr result (IsRefused (Command.Replay guard) bytes.now) }
+fn replay_answer<S: Source>(alloc: Global, guard: Name, source: &mut S) -> Result<Answer, Refused>
+    ensures ok { IfOk result (λ answer. ReadWhole (S.left source.old) (S.left source.new) 67108864 (λ bytes. IsReplay guard bytes answer.text.items answer.reported)) }
+    ensures refused { IfErr result (IsRefused (Command.Replay guard) (S.left source.old) (S.left source.new)) }
+    ensures fault { IsErrOf result (Refused.Read ReadEnd.Fault) → Rose (S.faults source.old) (S.faults source.new) }
 {
-    match replay(alloc, guard, bytes) {
+    match replay(alloc, guard, source, LOG_LIMIT) {
         Ok(answer) => Ok(answer),
-        Err(LogRefused::Fault(fault)) => Err(Refused::Log(fault)),
-        Err(LogRefused::NoMemory) => Err(Refused::NoMemory),
+        Err(LogEnd::Fault(fault)) => Err(Refused::Log(fault)),
+        Err(LogEnd::Read(end)) => Err(Refused::Read(end)),
     }
 }
 
-fn probe_answer(
+fn probe_answer<S: Source>(
     alloc: Global,
     guard: Name,
     words: &[String],
     probes: Vec<Box<dyn Probe>>,
-    bytes: &[u8],
+    source: &mut S,
 ) -> Result<Answer, Refused>
-    requires short { length bytes.now < 2 ^ 31 }
     requires fresh { All (λ p. has_seen p []) probes.items }
-    ensures ok { IfOk result (λ answer. IsProbed (map (λ p. meaning p) probes.items) (names_of_words (map string_bytes words.now)) guard bytes.now answer.text.items answer.reported) }
-    ensures refused { IfErr result (IsRefused (Command.Probe guard) bytes.now) }
+    ensures ok { IfOk result (λ answer. ReadWhole (S.left source.old) (S.left source.new) 67108864 (λ bytes.
+        IsProbed (map (λ p. meaning p) probes.items) (names_of_words (map string_bytes words.now)) guard bytes answer.text.items answer.reported)) }
+    ensures refused { IfErr result (IsRefused (Command.Probe guard) (S.left source.old) (S.left source.new)) }
+    ensures fault { IsErrOf result (Refused.Read ReadEnd.Fault) → Rose (S.faults source.old) (S.faults source.new) }
 {
-    match probe(alloc, guard, names_of(words), probes, bytes) {
+    let bytes = match read_all(alloc, source, LOG_LIMIT) {
+        Ok(bytes) => bytes,
+        Err(end) => return Err(Refused::Read(end)),
+    };
+    match probe(alloc, guard, names_of(words), probes, &bytes) {
         Ok(answer) => Ok(answer),
         Err(LogRefused::Fault(fault)) => Err(Refused::Log(fault)),
-        Err(LogRefused::NoMemory) => Err(Refused::NoMemory),
+        Err(LogRefused::NoMemory) => Err(Refused::Read(ReadEnd::NoMemory)),
     }
 }
 
-fn run_answer(alloc: Global, bytes: &[u8]) -> Result<Answer, Refused>
-    requires { length bytes.now < 2 ^ 31 }
-    ensures ok { IfOk result (λ answer. IsRunTold bytes.now answer.text.items × (answer.reported ≡ false)) }
-    ensures refused { IfErr result (IsRefused Command.Run bytes.now) }
+fn run_answer<S: Source>(alloc: Global, source: &mut S) -> Result<Answer, Refused>
+    ensures ok { IfOk result (λ answer. ReadWhole (S.left source.old) (S.left source.new) 1048576 (λ bytes. IsRunTold bytes answer.text.items × (answer.reported ≡ false))) }
+    ensures refused { IfErr result (IsRefused Command.Run (S.left source.old) (S.left source.new)) }
+    ensures fault { IsErrOf result (Refused.Read ReadEnd.Fault) → Rose (S.faults source.old) (S.faults source.new) }
 {
-    match run(alloc, bytes) {
+    let bytes = match read_all(alloc, source, JOB_LIMIT) {
+        Ok(bytes) => bytes,
+        Err(end) => return Err(Refused::Read(end)),
+    };
+    match run(alloc, &bytes) {
         Ok(text) => Ok(Answer {
             text,
             reported: false,
         }),
         Err(JobRefused::Fault(fault)) => Err(Refused::Job(fault)),
-        Err(JobRefused::NoMemory) => Err(Refused::NoMemory),
+        Err(JobRefused::NoMemory) => Err(Refused::Read(ReadEnd::NoMemory)),
     }
 }
 
-fn list_answer(alloc: Global, bytes: &[u8]) -> Result<Answer, Refused>
-    requires { length bytes.now < 2 ^ 31 }
-    ensures ok { IfOk result (λ answer. IsListing bytes.now answer.text.items × (answer.reported ≡ false)) }
-    ensures refused { IfErr result (IsRefused Command.List bytes.now) }
+fn list_answer<S: Source>(alloc: Global, source: &mut S) -> Result<Answer, Refused>
+    ensures ok { IfOk result (λ answer. ReadWhole (S.left source.old) (S.left source.new) 1048576 (λ bytes. IsListing bytes answer.text.items × (answer.reported ≡ false))) }
+    ensures refused { IfErr result (IsRefused Command.List (S.left source.old) (S.left source.new)) }
+    ensures fault { IsErrOf result (Refused.Read ReadEnd.Fault) → Rose (S.faults source.old) (S.faults source.new) }
 {
-    match list(alloc, bytes) {
+    let bytes = match read_all(alloc, source, JOB_LIMIT) {
+        Ok(bytes) => bytes,
+        Err(end) => return Err(Refused::Read(end)),
+    };
+    match list(alloc, &bytes) {
         Ok(text) => Ok(Answer {
             text,
             reported: false,
         }),
         Err(JobRefused::Fault(fault)) => Err(Refused::Job(fault)),
-        Err(JobRefused::NoMemory) => Err(Refused::NoMemory),
+        Err(JobRefused::NoMemory) => Err(Refused::Read(ReadEnd::NoMemory)),
     }
 }

@@ -1,5 +1,6 @@
 use guest_asm::JobFault;
 use log_text::LogFault;
+use pl_base::ReadEnd;
 
 /// Why there is no answer.
 #[derive(Clone, Copy, Debug, PartialEq, Eq)]
@@ -8,5 +9,6 @@ pub enum Refused {
     Job(JobFault),
     /// The input is no well-formed log.
     Log(LogFault),
-    NoMemory,
+    /// The input was not read to its end, or no memory was left.
+    Read(ReadEnd),
 }

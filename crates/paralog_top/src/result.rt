@@ -16,7 +16,6 @@ pub fn result_of<L: Lifeguard>(
     guard: L,
     monitor: &PlainMonitor<L>,
 ) -> Result<Answer, NoMemory>
-    requires few { monitor.now.harts ≤ 8 }
     ensures { (log : Log) → log.harts ≡ monitor.now.harts → Stands (L.rules guard) log.pages (events_of log.lines) monitor.now.shadow
         → IfOk result (λ answer. IsResult (L.rules guard) log answer.text.items answer.reported) }
 {
@@ -25,7 +24,7 @@ pub fn result_of<L: Lifeguard>(
     let text = text(
         alloc,
         guard.name(),
-        monitor.harts,
+        monitor.harts(),
         monitor.reports(),
         &masks,
         &runs,
@@ -39,19 +38,17 @@ fn mask_table<L: Lifeguard>(
     alloc: Global,
     monitor: &PlainMonitor<L>,
 ) -> Result<Vec<[u8; 34]>, NoMemory>
-    requires { monitor.now.harts ≤ 8 }
     ensures { IfOk result (λ table. table.items ≡ mask_rows (state_of monitor.now.shadow).masks monitor.now.harts) }
 {
     let mut table = Vec::new(alloc);
-    for hart in 0..monitor.harts {
+    for hart in 0..monitor.harts() {
         table.push(masks_of(monitor, hart))?;
     }
     Ok(table)
 }
 
 fn masks_of<L: Lifeguard>(monitor: &PlainMonitor<L>, hart: u8) -> [u8; 34]
-    requires few { monitor.now.harts ≤ 8 }
-    requires hart { hart < monitor.now.harts }
+    requires { hart < monitor.now.harts }
     ensures { result ≡ mask_row (state_of monitor.now.shadow).masks hart }
 {
     let mut masks = [0; 34];

@@ -1,6 +1,7 @@
-ghost use Rattle.std.specs.Prelude.{◌≡◌, ◌↔◌, ◌<◌, [], All, length, map, string_bytes, IfSome};
+ghost use Rattle.std.specs.Prelude.{◌≡◌, ◌↔◌, ◌+◌, [], All, map, string_bytes};
 ghost use Rattle.std.specs.Io.KnownBytes.{Keeps};
 ghost use Rattle.pl_base.specs.Causes.{Rose};
+ghost use Rattle.pl_base.specs.Fronts.{TakesBetween};
 ghost use Rattle.guest_asm.specs.declared.cause.JobFault.{JobFault};
 ghost use Rattle.log_text.specs.declared.cause.LogFault.{LogFault};
 ghost use Rattle.paralog_top.specs.declared.command.Command.{Command};
@@ -10,17 +11,17 @@ ghost use Rattle.paralog_top.specs.Endings.{ReadWhole, WritesAnswer, WritesLess,
 ghost use Rattle.paralog_top.specs.Refusals.{IsBadLog, IsBadJob};
 ghost use Rattle.paralog_top.specs.Statuses.{IfDone};
 
-use crate::answer::{Answer, input_limit, make_answer};
+use crate::answer::{Answer, answer_to};
 use crate::command::{Command, parse_command};
 use crate::ending::Ending;
 use crate::notes::{note, note_bad_job, note_bad_log};
 use crate::refused::Refused;
 use crate::status::Status;
-use pl_base::{ReadEnd, Sink, Source, read_all, write_all_counted};
+use pl_base::{ReadEnd, Sink, Source, write_all_counted};
 use replay_probes::Probe;
 use std::alloc::Global;
 
-/// Runs the command that the words are, on one thread: reads its input whole, and writes its answer to `out` and, for
+/// Runs the command that the words are, on one thread: reads its input to the end, and writes its answer to `out` and, for
 /// any status but `Clean` and `Reports`, one line to `notes`.
 ///
 /// `Usage` comes before anything is read; `ReadFault` and `TooLong` by reading; `BadJob` and `BadLog` before anything is written;
@@ -48,9 +49,10 @@ pub fn plain_top<S: Source, K: Sink, E: Sink>(
     ensures bad_job { result ≡ Status.BadJob → (command : Command) × (fault : JobFault) × IsCommand (map (λ p. meaning p) probes.items) (map string_bytes words.now) command
         × ReadWhole (S.left source.old) (S.left source.new) (limit_of command) (λ bytes. IsBadJob command bytes fault)
         × Noted (E.written notes.old) (E.written notes.new) (E.faults notes.old) (E.faults notes.new) (job_note fault) }
-    ensures read_fault { result ≡ Status.ReadFault → Rose (S.faults source.old) (S.faults source.new) }
+    ensures read_fault { result ≡ Status.ReadFault → Rose (S.faults source.old) (S.faults source.new)
+        × ((command : Command) × IsCommand (map (λ p. meaning p) probes.items) (map string_bytes words.now) command × TakesBetween (S.left source.old) (S.left source.new) 0 (limit_of command)) }
     ensures too_long { result ≡ Status.TooLong → (command : Command) × IsCommand (map (λ p. meaning p) probes.items) (map string_bytes words.now) command
-        × IfSome (S.left source.old) (λ bytes. limit_of command < length bytes) }
+        × TakesBetween (S.left source.old) (S.left source.new) (limit_of command + 1) (limit_of command + 65536) }
     ensures write_fault { result ≡ Status.WriteFault → Rose (K.faults out.old) (K.faults out.new) }
 
     // What is left behind.
@@ -91,7 +93,7 @@ pub fn plain_top<S: Source, K: Sink, E: Sink>(
     }
 }
 
-/// Reads the input of a command, and writes its answer.
+/// Answers a command's input, and writes the answer.
 fn run<S: Source, K: Sink>(
     alloc: Global,
     command: Command,
@@ -106,27 +108,23 @@ fn run<S: Source, K: Sink>(
     ensures bad_log { IfEndsBadLog result (λ fault. ReadWhole (S.left source.old) (S.left source.new) (limit_of command) (λ bytes. IsBadLog command bytes fault)) }
     ensures bad_job { IfEndsBadJob result (λ fault. ReadWhole (S.left source.old) (S.left source.new) (limit_of command) (λ bytes. IsBadJob command bytes fault)) }
     ensures read_fault { result ≡ Ending.ReadFault → Rose (S.faults source.old) (S.faults source.new) }
-    ensures too_long { result ≡ Ending.TooLong → IfSome (S.left source.old) (λ bytes. limit_of command < length bytes) }
+    ensures faulty { result ≡ Ending.ReadFault → TakesBetween (S.left source.old) (S.left source.new) 0 (limit_of command) }
+    ensures too_long { result ≡ Ending.TooLong → TakesBetween (S.left source.old) (S.left source.new) (limit_of command + 1) (limit_of command + 65536) }
     ensures write_fault { result ≡ Ending.WriteFault → Rose (K.faults out.old) (K.faults out.new) }
     ensures front { result ≡ Ending.WriteFault → ReadWhole (S.left source.old) (S.left source.new) (limit_of command) (λ bytes.
         WritesLess (map (λ p. meaning p) probes.items) (map string_bytes words.now) command bytes (K.written out.old) (K.written out.new)) }
     ensures complete { IsAnswered command (S.left source.old) (S.faults source.old) (S.faults source.new) (K.faults out.old) (K.faults out.new) (IsEndComplete result) }
     ensures quiet { IfEndsQuiet result (Keeps (K.written out.old) (K.written out.new)) }
 {
-    let bytes = match read_all(alloc, source, input_limit(command)) {
-        Ok(bytes) => bytes,
-        Err(ReadEnd::Fault) => return Ending::ReadFault,
-        Err(ReadEnd::TooLong) => return Ending::TooLong,
-        Err(ReadEnd::NoMemory) => return Ending::NoMemory,
-    };
-    let Answer { text, reported } = match make_answer(alloc, command, words, probes, &bytes) {
-        Ok(answer) => answer,
-        Err(Refused::Job(fault)) => return Ending::BadJob(fault),
-        Err(Refused::Log(fault)) => return Ending::BadLog(fault),
-        Err(Refused::NoMemory) => return Ending::NoMemory,
-    };
-    match write_all_counted(out, &text) {
-        Ok(()) => Ending::Done { reported },
-        Err(_) => Ending::WriteFault,
+    match answer_to(alloc, command, words, probes, source) {
+        Ok(Answer { text, reported }) => match write_all_counted(out, &text) {
+            Ok(()) => Ending::Done { reported },
+            Err(_) => Ending::WriteFault,
+        },
+        Err(Refused::Job(fault)) => Ending::BadJob(fault),
+        Err(Refused::Log(fault)) => Ending::BadLog(fault),
+        Err(Refused::Read(ReadEnd::Fault)) => Ending::ReadFault,
+        Err(Refused::Read(ReadEnd::TooLong)) => Ending::TooLong,
+        Err(Refused::Read(ReadEnd::NoMemory)) => Ending::NoMemory,
     }
 }

@@ -1,3 +1,4 @@
+pub mod Pages
 pub mod Causes
 pub mod Fronts
 pub mod FaultPlan

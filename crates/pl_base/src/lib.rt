@@ -11,6 +11,7 @@
 
 mod clean;
 mod fault_plan;
+pub mod layout;
 mod line_buffer;
 #[cfg(test)]
 mod line_buffer_tests;
@@ -18,6 +19,7 @@ mod loops;
 mod mem_sink;
 mod mem_source;
 mod outside;
+mod steps;
 #[cfg(test)]
 mod tests;
 mod unread;
@@ -29,4 +31,5 @@ pub use loops::{ReadEnd, read_all, write_all_counted};
 pub use mem_sink::MemSink;
 pub use mem_source::MemSource;
 pub use outside::{Failed, Gate, NoMemory, OpenGate, Sink, Source};
+pub use steps::Steps;
 pub use widths::{FaultCause, LoadWidth, StoreWidth};

@@ -6,7 +6,7 @@ use Rattle.std.proofs.Math.ListN.{set}
 use Rattle.std.proofs.lemmas.List.{get_or-set_same, get_or-set_other, get_or_default, get_or-replicate, get_or_past, length-replicate}
 use mathlib.Core.Path.{fun_ext}
 use Rattle.lifeguard.specs.State.{Bytes, nibble_at, is_in, changed, replaced, span, nothing}
-use Rattle.lifeguard.specs.Stands.{bytes_of, cell_value}
+use Rattle.lifeguard.specs.Shadow.{bytes_of, cell_value}
 
 -- ---- a range that is written byte by byte
 

@@ -2,6 +2,8 @@ pub mod CallLemmas
 pub mod CellLemmas
 pub mod MaskLemmas
 pub mod NibbleLemmas
+pub mod OtherHarts
 pub mod PageLemmas
 pub mod PlainLemmas
+pub mod RangeLemmas
 pub mod ReportLemmas

@@ -6,7 +6,7 @@ use Rattle.std.proofs.Math.ListN.{set}
 use Rattle.std.proofs.lemmas.List.{get_or-set_same, get_or-set_other, get_or-replicate, get_or_past, length-replicate}
 use mathlib.Core.Path.{fun_ext}
 use Rattle.lifeguard.specs.State.{Masks, with_mask, clear}
-use Rattle.lifeguard.specs.Stands.{masks_of}
+use Rattle.lifeguard.specs.Shadow.{masks_of}
 
 -- a written mask
 pub masks_of-set : (masks : List (List ℕ)) (hart register mask : ℕ) → hart < length masks → register < length (get_or masks hart []) → register ≢ 0

@@ -12,7 +12,7 @@ use Rattle.lifeguard.specs.Rules.{Rules}
 use Rattle.lifeguard.specs.Plain.{loaded_mask}
 use Rattle.lifeguard.specs.State.{Bytes, nibble_at, is_in, changed, replaced, span, nothing}
 use Rattle.lifeguard.specs.Pages.{page_of, HasRoom}
-use Rattle.lifeguard.specs.Stands.{bytes_of, bytes_in}
+use Rattle.lifeguard.specs.Shadow.{bytes_of, bytes_in}
 use Rattle.lifeguard.proofs.CellLemmas.{written, changed-written, bytes_of_past, bytes_of-filled}
 
 -- ---- reading

@@ -11,11 +11,11 @@ use Rattle.pl_event.specs.declared.log.PageRun.{PageRun}
 use Rattle.pl_event.specs.Numbers.{events_on}
 use Rattle.lifeguard.specs.Rules.{Rules}
 use Rattle.lifeguard.specs.State.{State, Bytes, Masks, first_state}
-use Rattle.lifeguard.specs.Plain.{rule, stand_behind, plain_from, plain_result, masks_after, bytes_after, reports_of}
-use Rattle.lifeguard.specs.Stands.{Stands, Begins, IsStep, next_stand, state_of, state_from, bytes_in, masks_of}
+use Rattle.lifeguard.specs.Plain.{rule, place_after, plain_from, plain_result, masks_after, bytes_after, reports_of}
+use Rattle.lifeguard.specs.Shadow.{Represents, Begins, IsStep, next_place, state_of, state_from, bytes_in, masks_of}
 use Rattle.lifeguard.specs.declared.shadow.Shadow.{Shadow}
 use Rattle.lifeguard.specs.declared.report.Report.{Report}
-use Rattle.lifeguard.specs.declared.report.Stand.{Stand}
+use Rattle.lifeguard.specs.declared.report.EventPlace.{EventPlace}
 
 -- a store changes no mask: the bytes that an event changes may be read off the masks behind it
 pub bytes_after-masks_after : (rules : Rules) (hart : ℕ) (kind : Kind) (bytes : Bytes) (masks : Masks) → bytes_after rules hart kind bytes (masks_after rules hart kind bytes masks) ≡ bytes_after rules hart kind bytes masks
@@ -37,7 +37,7 @@ bytes_after-masks_after rules hart Ex bytes masks = refl
 bytes_after-masks_after rules hart (Ft cause addr) bytes masks = refl
 
 -- room first, then reports, then masks, then bytes make one step
-pub state_after : (rules : Rules) (at : Stand) (kind : Kind) (pages read seen written after : List (List ℕ)) (masks marked : List (List ℕ)) (reports told : List Report)
+pub state_after : (rules : Rules) (at : EventPlace) (kind : Kind) (pages read seen written after : List (List ℕ)) (masks marked : List (List ℕ)) (reports told : List Report)
     → bytes_in read ≡ bytes_in pages → bytes_in seen ≡ bytes_in pages → bytes_in written ≡ bytes_in pages
     → told ≡ reports ++ reports_of rules at kind (state_from read masks [])
     → masks_of marked ≡ masks_after rules at.hart kind (bytes_in seen) (masks_of masks)
@@ -63,31 +63,31 @@ count_after counts hart h inside =
 
 -- the last event comes last
 plain_from-last : (rules : Rules) (before events : List Event) (state : State) (event : Event)
-    → plain_from rules before state (events ++ event ∷ []) ≡ rule rules (stand_behind (before ++ events) event) event.kind (plain_from rules before state events)
-plain_from-last rules before [] state event = ap (λ (done : List Event). rule rules (stand_behind done event) event.kind state) (sym (grind (arith, common_steps)))
+    → plain_from rules before state (events ++ event ∷ []) ≡ rule rules (place_after (before ++ events) event) event.kind (plain_from rules before state events)
+plain_from-last rules before [] state event = ap (λ (done : List Event). rule rules (place_after done event) event.kind state) (sym (grind (arith, common_steps)))
 plain_from-last rules before (first ∷ events) state event =
-    plain_from-last rules (before ++ first ∷ []) events (rule rules (stand_behind before first) first.kind state) event
-    ∙ ap (λ (done : List Event). rule rules (stand_behind done event) event.kind (plain_from rules (before ++ first ∷ []) (rule rules (stand_behind before first) first.kind state) events)) (append_assoc before (first ∷ []) events)
+    plain_from-last rules (before ++ first ∷ []) events (rule rules (place_after before first) first.kind state) event
+    ∙ ap (λ (done : List Event). rule rules (place_after done event) event.kind (plain_from rules (before ++ first ∷ []) (rule rules (place_after before first) first.kind state) events)) (append_assoc before (first ∷ []) events)
 
 pub plain_result-last : (rules : Rules) (pages : List PageRun) (events : List Event) (event : Event)
-    → plain_result rules pages (events ++ event ∷ []) ≡ rule rules (stand_behind events event) event.kind (plain_result rules pages events)
+    → plain_result rules pages (events ++ event ∷ []) ≡ rule rules (place_after events event) event.kind (plain_result rules pages events)
 plain_result-last rules pages events event = plain_from-last rules [] events (first_state rules pages) event
 
 -- at the start a monitor stands for no event
-pub stands_first : (rules : Rules) (pages : List PageRun) (shadow : Shadow) → Begins rules pages shadow → Stands rules pages [] shadow
-stands_first rules pages shadow begins = record { state = begins.state; place = begins.place; counts = λ h lt. begins.counts h }
+pub represents_first : (rules : Rules) (pages : List PageRun) (shadow : Shadow) → Begins rules pages shadow → Represents rules pages [] shadow
+represents_first rules pages shadow begins = record { state = begins.state; place = begins.place; counts = λ h lt. begins.counts h }
 
 -- how a count grows
 events_on-last : (h : ℕ) (events : List Event) (event : Event) → events_on h (events ++ event ∷ []) ≡ events_on h events + (if event.hart == h then 1 else 0)
 events_on-last h events event = grind (arith, common_steps)
 
 -- after one event more it stands for one event more
-pub stands_next : (rules : Rules) (pages : List PageRun) (events : List Event) (event : Event) (old new : Shadow) → event.hart < 8
-    → IsStep rules event old new → Stands rules pages events old → Stands rules pages (events ++ event ∷ []) new
-stands_next rules pages events event old new inside step stands =
-    let at : next_stand old event.hart ≡ stand_behind events event = rw (stands.place, stands.counts event.hart inside) refl in
+pub represents_next : (rules : Rules) (pages : List PageRun) (events : List Event) (event : Event) (old new : Shadow) → event.hart < 8
+    → IsStep rules event old new → Represents rules pages events old → Represents rules pages (events ++ event ∷ []) new
+represents_next rules pages events event old new inside step stands =
+    let at : next_place old event.hart ≡ place_after events event = rw (stands.place, stands.counts event.hart inside) refl in
     record {
-      state = step.state ∙ ap (λ stand. rule rules stand event.kind (state_of old)) at ∙ ap (rule rules (stand_behind events event) event.kind) stands.state ∙ sym (plain_result-last rules pages events event);
+      state = step.state ∙ ap (λ stand. rule rules stand event.kind (state_of old)) at ∙ ap (rule rules (place_after events event) event.kind) stands.state ∙ sym (plain_result-last rules pages events event);
       place = step.place ∙ rw stands.place (sym (grind (arith, common_steps)));
       counts = λ h lt. step.counts h lt ∙ rw (stands.counts h lt) (sym (events_on-last h events event));
     }

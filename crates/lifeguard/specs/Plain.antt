@@ -16,16 +16,16 @@ use Rattle.lifeguard.specs.declared.guard.RangeKind.TheVariants as range
 use Rattle.lifeguard.specs.declared.report.Report.{Report}
 use Rattle.lifeguard.specs.declared.report.ReportKind.{ReportKind}
 use Rattle.lifeguard.specs.declared.report.ReportKind.TheVariants as report
-use Rattle.lifeguard.specs.declared.report.Stand.{Stand}
+use Rattle.lifeguard.specs.declared.report.EventPlace.{EventPlace}
 use Rattle.lifeguard.specs.Rules.{Rules}
 use Rattle.lifeguard.specs.State.{State, Bytes, Masks, nibble_at, span, changed, paged, with_mask, first_state}
 
 -- ---- reports
 
-abbrev pub report_at : Stand → ReportKind → ℕ → Report
+abbrev pub report_at : EventPlace → ReportKind → ℕ → Report
 report_at at kind addr = record { place = at.place; hart = at.hart; event = at.number; kind = kind; addr = addr }
 
-abbrev pub reported : Stand → ReportKind → Option ℕ → List Report
+abbrev pub reported : EventPlace → ReportKind → Option ℕ → List Report
 reported at kind None = []
 reported at kind (Some addr) = report_at at kind addr ∷ []
 
@@ -72,16 +72,16 @@ misdeed (Bf addr) = Some (report.BadFree, addr)
 misdeed (Ft Unmapped addr) = Some (report.Fault, addr)
 misdeed _ = None
 
-abbrev pub misdeed_report : Stand → Option (ReportKind × ℕ) → List Report
+abbrev pub misdeed_report : EventPlace → Option (ReportKind × ℕ) → List Report
 misdeed_report at None = []
 misdeed_report at (Some deed) = report_at at deed.0 deed.1 ∷ []
 
 -- the report of what the event itself is, which a taint check leaves out
-abbrev pub misdeeds : Rules → Stand → Kind → List Report
+abbrev pub misdeeds : Rules → EventPlace → Kind → List Report
 misdeeds rules at kind = if is_taint rules.name then [] else misdeed_report at (misdeed kind)
 
 -- the reports of an event, in order
-abbrev pub reports_of : Rules → Stand → Kind → State → List Report
+abbrev pub reports_of : Rules → EventPlace → Kind → State → List Report
 reports_of rules at kind state =
     reported at (register_report kind) (marked_register rules state.masks at.hart kind)
     ++ reported at report.Access (bad_touch rules state.bytes kind)
@@ -162,7 +162,7 @@ bytes_after rules hart (Ft cause addr) bytes masks = bytes
 -- ---- one event, and all
 
 -- what one event makes of a state
-unfoldable pub rule : Rules → Stand → Kind → State → State
+unfoldable pub rule : Rules → EventPlace → Kind → State → State
 rule rules at kind state = record {
   bytes = bytes_after rules at.hart kind state.bytes state.masks;
   masks = masks_after rules at.hart kind state.bytes state.masks;
@@ -170,13 +170,13 @@ rule rules at kind state = record {
 }
 
 -- where an event stands behind those before it
-abbrev pub stand_behind : List Event → Event → Stand
-stand_behind before event = record { place = length before + 1; hart = event.hart; number = events_on event.hart before + 1 }
+abbrev pub place_after : List Event → Event → EventPlace
+place_after before event = record { place = length before + 1; hart = event.hart; number = events_on event.hart before + 1 }
 
 -- further events, behind those before them
 abbrev pub plain_from : Rules → List Event → State → List Event → State
 plain_from rules before state [] = state
-plain_from rules before state (event ∷ events) = plain_from rules (before ++ event ∷ []) (rule rules (stand_behind before event) event.kind state) events
+plain_from rules before state (event ∷ events) = plain_from rules (before ++ event ∷ []) (rule rules (place_after before event) event.kind state) events
 
 -- the plain result of a run: all events one by one, from the pages of its start
 abbrev pub plain_result : Rules → List PageRun → List Event → State

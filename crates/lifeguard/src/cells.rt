@@ -3,7 +3,7 @@ ghost use Rattle.std.specs.Prelude.{◌≡◌, ◌+◌, ◌<◌, ◌≤◌, ◌^
 ghost use Rattle.pl_base.specs.Widths.{load_bytes, store_bytes};
 ghost use Rattle.lifeguard.specs.Rules.{Rules};
 ghost use Rattle.lifeguard.specs.State.{changed, replaced, nibble_at as nibble_of_byte, span};
-ghost use Rattle.lifeguard.specs.Stands.{bytes_of, cell_value};
+ghost use Rattle.lifeguard.specs.Shadow.{bytes_of, cell_value};
 ghost use Rattle.lifeguard.specs.Plain.{stored, mask_bit, loaded_mask as mask_of_bytes};
 ghost use Rattle.lifeguard.specs.Checks.{is_bad as is_bad_nibble};
 

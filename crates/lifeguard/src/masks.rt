@@ -1,7 +1,7 @@
 //! Masks, one for each of 34 registers of eight harts.
 ghost use Rattle.std.specs.Prelude.{◌≡◌, ◌<◌, All, find, not, ◌==◌, length, slice_set};
 ghost use Rattle.lifeguard.specs.State.{with_mask, clear};
-ghost use Rattle.lifeguard.specs.Stands.{masks_of};
+ghost use Rattle.lifeguard.specs.Shadow.{masks_of};
 
 /// The masks of eight harts, by hart and register.
 pub type Masks = [[u8; 34]; 8];
@@ -14,7 +14,7 @@ pub fn clear_masks() -> Masks
 }
 
 #[inline]
-#[tactic(auto, unfolding(crate::specs::Stands::masks_of))]
+#[tactic(auto, unfolding(crate::specs::Shadow::masks_of))]
 pub fn mask_at(masks: &Masks, hart: u8, reg: u8) -> u8
     requires hart { hart < 8 }
     requires register { reg < 34 }

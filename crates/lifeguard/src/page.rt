@@ -31,7 +31,7 @@ impl Page {
     ghost use Rattle.lifeguard.specs.Pages.{IsPage};
     ghost use Rattle.lifeguard.specs.Rules.{Rules};
     ghost use Rattle.lifeguard.specs.State.{changed, replaced};
-    ghost use Rattle.lifeguard.specs.Stands.{bytes_of, cell_value};
+    ghost use Rattle.lifeguard.specs.Shadow.{bytes_of, cell_value};
     ghost use Rattle.lifeguard.specs.Plain.{stored};
 
     /// A page without cells.

@@ -3,7 +3,7 @@ ghost use Rattle.std.specs.Prelude.{◌≡◌, ℕ, ◌+◌, ◌*◌, ◌%◌, �
 ghost use Rattle.pl_base.specs.Widths.{load_bytes};
 ghost use Rattle.lifeguard.specs.Rules.{Rules};
 ghost use Rattle.lifeguard.specs.State.{changed, paged, nothing, nibble_at as nibble_of_byte, span};
-ghost use Rattle.lifeguard.specs.Stands.{bytes_in, cell_value};
+ghost use Rattle.lifeguard.specs.Shadow.{bytes_in, cell_value};
 ghost use Rattle.lifeguard.specs.Pages.{HasRoom};
 ghost use Rattle.lifeguard.specs.Plain.{stored, loaded_mask as mask_of_bytes};
 ghost use Rattle.lifeguard.specs.Checks.{is_bad as is_bad_nibble};

@@ -4,7 +4,7 @@ ghost use Rattle.pl_event.specs.declared.event.Event.{Event};
 ghost use Rattle.pl_event.specs.declared.log.PageRun.{PageRun};
 ghost use Rattle.lifeguard.specs.Pages.{IsPage};
 ghost use Rattle.lifeguard.specs.Plain.{plain_result};
-ghost use Rattle.lifeguard.specs.Stands.{Stands, IsUnchanged, state_of, place_of, bytes_of};
+ghost use Rattle.lifeguard.specs.Shadow.{Represents, IsUnchanged, state_of, place_of, bytes_of};
 
 use crate::guard::Lifeguard;
 use crate::report::Report;
@@ -32,7 +32,7 @@ impl<L: Lifeguard> PlainMonitor<L> {
     ) -> Result<PlainMonitor<L>, NoMemory>
         requires few { harts ≤ 8 }
         requires inside { All (λ run. run.first + run.count ≤ 4096) pages.now }
-        ensures stands { IfOk result (λ monitor. Stands (L.rules l) pages.now [] monitor.shadow) }
+        ensures stands { IfOk result (λ monitor. Represents (L.rules l) pages.now [] monitor.shadow) }
         ensures guard { IfOk result (λ monitor. monitor.guard ≡ l) }
         ensures harts { IfOk result (λ monitor. monitor.harts ≡ harts) }
     {
@@ -65,8 +65,8 @@ impl<L: Lifeguard> PlainMonitor<L> {
     pub fn apply(&mut self, event: &Event) -> Result<(), NoMemory>
         requires valid { IsValidEvent event.now self.old.harts }
         requires room { place_of self.old.shadow < 2000000 }
-        ensures stands { OnOk result ((pages : List PageRun) (events : List Event) → Stands (L.rules self.old.guard) pages events self.old.shadow
-            → Stands (L.rules self.old.guard) pages (events ++ event.now ∷ []) self.new.shadow) }
+        ensures stands { OnOk result ((pages : List PageRun) (events : List Event) → Represents (L.rules self.old.guard) pages events self.old.shadow
+            → Represents (L.rules self.old.guard) pages (events ++ event.now ∷ []) self.new.shadow) }
         ensures place { OnOk result (place_of self.new.shadow ≡ place_of self.old.shadow + 1) }
         ensures err { OnErr result (IsUnchanged self.old.shadow self.new.shadow) }
         ensures guard { self.new.guard ≡ self.old.guard }

@@ -1,3 +1,5 @@
+//! What a lifeguard finds, and at which event.
+
 /// What a report is about.
 #[derive(Clone, Copy, Debug, PartialEq, Eq)]
 pub enum ReportKind {
@@ -32,10 +34,12 @@ pub struct Report {
     pub addr: u32,
 }
 
-/// Where an event stands in the run and in its hart.
+/// Which event of a run it is.
 #[derive(Clone, Copy, Debug, PartialEq, Eq)]
-pub struct Stand {
+pub struct EventPlace {
+    /// Its place in the run, from 1, notices not counted.
     pub place: u32,
     pub hart: u8,
+    /// Its number in its hart, from 1, notices not counted.
     pub number: u32,
 }

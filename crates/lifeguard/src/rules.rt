@@ -2,7 +2,7 @@
 ghost use Rattle.std.specs.Prelude.{◌≡◌, ◌<◌, ◌≤◌, ◌^◌, ◌++◌, [], length, take, OnOk, OnErr};
 ghost use Rattle.pl_event.specs.Valid.{HasValidFields};
 ghost use Rattle.lifeguard.specs.State.{State};
-ghost use Rattle.lifeguard.specs.Stands.{bytes_in, masks_of, state_from};
+ghost use Rattle.lifeguard.specs.Shadow.{bytes_in, masks_of, state_from};
 ghost use Rattle.lifeguard.specs.Pages.{HasRoomFor};
 ghost use Rattle.lifeguard.specs.Plain.{reported, register_report as register_report_of, marked_register as marked_register_of, bad_touch as bad_touch_of, bad_sent as bad_sent_of, misdeed as misdeed_of, misdeed_report, misdeeds, reports_of, masks_after, bytes_after};
 
@@ -14,13 +14,13 @@ use crate::pages::{
     change_range_in, first_bad_in, first_bad_on_page, loaded_mask_on_page, make_room, map_pages,
     store_on_page, unmap_pages,
 };
-use crate::report::{Report, ReportKind, Stand};
+use crate::report::{EventPlace, Report, ReportKind};
 use pl_base::{FaultCause, NoMemory};
 use pl_event::{Kind, PageKind};
 
 /// What a report on a checked register is called.
 #[inline]
-fn register_report(kind: &Kind) -> ReportKind
+pub fn register_report(kind: &Kind) -> ReportKind
     ensures { result ≡ register_report_of kind.now }
 {
     match kind {
@@ -114,7 +114,7 @@ fn bad_sent<L: Lifeguard>(guard: L, pages: &[Page], kind: &Kind) -> Option<u32>
 
 /// What the event itself is reported as: a free of no block, or a fault at a byte of no mapped page.
 #[inline]
-fn misdeed(kind: &Kind) -> Option<(ReportKind, u32)>
+pub fn misdeed(kind: &Kind) -> Option<(ReportKind, u32)>
     ensures { result ≡ misdeed_of kind.now }
 {
     match *kind {
@@ -143,9 +143,9 @@ fn misdeed(kind: &Kind) -> Option<(ReportKind, u32)>
 
 /// Adds a report at what was found. Without memory the reports stay.
 #[inline]
-fn push_found(
+pub fn push_found(
     reports: &mut Vec<Report>,
-    at: Stand,
+    at: EventPlace,
     kind: ReportKind,
     found: Option<u32>,
 ) -> Result<(), NoMemory>
@@ -166,10 +166,10 @@ fn push_found(
 
 /// Adds the report of the event itself, which a taint check leaves out. Without memory the reports stay.
 #[inline]
-fn push_misdeed<L: Lifeguard>(
+pub fn push_misdeed<L: Lifeguard>(
     guard: L,
     reports: &mut Vec<Report>,
-    at: Stand,
+    at: EventPlace,
     kind: &Kind,
 ) -> Result<(), NoMemory>
     ensures ok { OnOk result (reports.new.items ≡ reports.old.items ++ misdeeds (L.rules guard) at kind.now) }
@@ -191,7 +191,7 @@ fn push_reports<L: Lifeguard>(
     pages: &[Page],
     masks: &Masks,
     reports: &mut Vec<Report>,
-    at: Stand,
+    at: EventPlace,
     kind: &Kind,
 ) -> Result<(), NoMemory>
     requires hart { at.hart < 8 }
@@ -216,7 +216,7 @@ pub fn report_event<L: Lifeguard>(
     pages: &[Page],
     masks: &Masks,
     reports: &mut Vec<Report>,
-    at: Stand,
+    at: EventPlace,
     kind: &Kind,
 ) -> Result<(), NoMemory>
     requires hart { at.hart < 8 }

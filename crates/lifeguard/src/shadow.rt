@@ -4,7 +4,7 @@ use crate::guard::Lifeguard;
 use crate::masks::{Masks, clear_masks, mask_at};
 use crate::page::Page;
 use crate::pages::{byte_in, map_runs, unmapped_pages};
-use crate::report::{Report, Stand};
+use crate::report::{EventPlace, Report};
 use crate::rules::{change_bytes, change_masks, make_room_for, report_event};
 use pl_base::NoMemory;
 use pl_event::{Event, PageRun};
@@ -31,7 +31,7 @@ impl Shadow {
     ghost use Rattle.pl_event.specs.Valid.{HasValidFields};
     ghost use Rattle.lifeguard.specs.Pages.{IsPage};
     ghost use Rattle.lifeguard.specs.State.{first_state};
-    ghost use Rattle.lifeguard.specs.Stands.{state_of, place_of, bytes_of, masks_of, IsStep, IsUnchanged, Begins};
+    ghost use Rattle.lifeguard.specs.Shadow.{state_of, place_of, bytes_of, masks_of, IsStep, IsUnchanged, Begins};
 
     /// The state before the first event, with these pages mapped.
     pub fn new<L: Lifeguard>(alloc: Global, guard: L, runs: &[PageRun]) -> Result<Shadow, NoMemory>
@@ -60,7 +60,7 @@ impl Shadow {
     {
         let hart = event.hart;
         let kind = &event.kind;
-        let at = Stand {
+        let at = EventPlace {
             place: self.place + 1,
             hart,
             number: self.counts[hart as usize] + 1,

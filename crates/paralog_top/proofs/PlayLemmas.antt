@@ -18,7 +18,7 @@ use Rattle.log_text.specs.Reading.{IsOnly, with_line, line_of}
 use Rattle.log_text.specs.Streaming.{IsStreamed, StreamsRow, WasRead, IfNext, begun_log}
 use Rattle.lifeguard.specs.Rules.{Rules}
 use Rattle.lifeguard.specs.declared.shadow.Shadow.{Shadow}
-use Rattle.lifeguard.specs.Stands.{Stands, place_of}
+use Rattle.lifeguard.specs.Shadow.{Represents, place_of}
 use Rattle.paralog_top.specs.Defined.{IsResult, IsReplayUnder}
 use Rattle.paralog_top.specs.Playing.{IsPlaying, WasPlayed}
 
@@ -35,7 +35,7 @@ few_events (line ∷ lines) = omega (arith, few_of line.what (events_of lines), 
 pub valid_row : (harts limit : ℕ) (began now : Option (List ℕ)) (stream : LogStream) (log : Log) (row : Row) → log.harts ≡ harts → StreamsRow limit began now stream log row → IsValidRecord harts row.what
 valid_row harts limit began now stream log row same reads = subst (λ (h : ℕ). IsValidRecord h row.what) same reads.valid
 
-pub room_left : (rules : Rules) (limit : ℕ) (began now : Option (List ℕ)) (stream : LogStream) (log : Log) (shadow : Shadow) (row : Row) → Stands rules log.pages (events_of log.lines) shadow → StreamsRow limit began now stream log row → place_of shadow < 2000000
+pub room_left : (rules : Rules) (limit : ℕ) (began now : Option (List ℕ)) (stream : LogStream) (log : Log) (shadow : Shadow) (row : Row) → Represents rules log.pages (events_of log.lines) shadow → StreamsRow limit began now stream log row → place_of shadow < 2000000
 room_left rules limit began now stream log shadow row stands reads = omega (arith, stands.place, few_events log.lines, reads.room)
 
 events-line : (lines : List Line) (line : Line) → events_of (lines ++ line ∷ []) ≡ events_of lines ++ cons_option (event_of line.what) []
@@ -43,16 +43,16 @@ events-line lines line = filter_map-append (λ l. event_of l.what) lines (line �
 
 -- its event was played
 pub plays_row : (rules : Rules) (harts limit : ℕ) (began now : Option (List ℕ)) (stream : LogStream) (after : Shadow) (log : Log) (row : Row) → log.harts ≡ harts → StreamsRow limit began now stream log row
-    → Stands rules log.pages (events_of log.lines ++ cons_option (event_of row.what) []) after → IsPlaying rules harts limit began now stream after
+    → Represents rules log.pages (events_of log.lines ++ cons_option (event_of row.what) []) after → IsPlaying rules harts limit began now stream after
 plays_row rules harts limit began now stream after log row same reads stands = record {
   log = with_line log (line_of stream.reader row);
   same = same;
   read = reads.read;
-  stands = subst (λ (events : List Event). Stands rules log.pages events after) (sym (events-line log.lines (line_of stream.reader row))) stands;
+  stands = subst (λ (events : List Event). Represents rules log.pages events after) (sym (events-line log.lines (line_of stream.reader row))) stands;
 }
 
 -- the log has ended
-pub plays_all : (rules : Rules) (harts limit : ℕ) (began now : Option (List ℕ)) (shadow : Shadow) (log : Log) → log.harts ≡ harts → Stands rules log.pages (events_of log.lines) shadow → WasRead limit began now (λ bytes. IsOnly bytes log)
+pub plays_all : (rules : Rules) (harts limit : ℕ) (began now : Option (List ℕ)) (shadow : Shadow) (log : Log) → log.harts ≡ harts → Represents rules log.pages (events_of log.lines) shadow → WasRead limit began now (λ bytes. IsOnly bytes log)
     → WasPlayed rules harts limit began now shadow
 plays_all rules harts limit began now shadow log same stands was = record {
   bytes = was.bytes;
@@ -74,17 +74,17 @@ played_as {G} rules guard other harts count limit began now shadow same few play
 
 -- before the first record
 pub begins_playing : {G : Type 0} (rules : G → Rules) (guard first : G) (limit : ℕ) (began now : Option (List ℕ)) (opening : Opening) (harts : ℕ) (shadow : Shadow) (pages : List PageRun) → first ≡ guard → harts ≡ opening.harts → pages ≡ opening.pages
-    → Stands (rules guard) pages [] shadow → IsStreamed limit began now opening.stream (begun_log opening) → IsPlaying (rules first) harts limit began now opening.stream shadow
+    → Represents (rules guard) pages [] shadow → IsStreamed limit began now opening.stream (begun_log opening) → IsPlaying (rules first) harts limit began now opening.stream shadow
 begins_playing {G} rules guard first limit began now opening harts shadow pages same few runs stands streamed = record {
   log = begun_log opening;
   same = sym few;
   read = streamed;
-  stands = subst (λ (g : G). Stands (rules g) opening.pages [] shadow) (sym same) (subst (λ (ps : List PageRun). Stands (rules guard) ps [] shadow) runs stands);
+  stands = subst (λ (g : G). Represents (rules g) opening.pages [] shadow) (sym same) (subst (λ (ps : List PageRun). Represents (rules guard) ps [] shadow) runs stands);
 }
 
 -- the result of a log that was played
 pub is_replayed : {G : Type 0} (rules : G → Rules) (guard first : G) (limit : ℕ) (began now : Option (List ℕ)) (harts after : ℕ) (shadow : Shadow) (text : List ℕ) (reported : Bool) → first ≡ guard → after ≡ harts → WasPlayed (rules first) harts limit began now shadow
-    → ((log : Log) → log.harts ≡ after → Stands (rules guard) log.pages (events_of log.lines) shadow → IsResult (rules guard) log text reported) → WasRead limit began now (λ bytes. IsReplayUnder (rules guard) bytes text reported)
+    → ((log : Log) → log.harts ≡ after → Represents (rules guard) log.pages (events_of log.lines) shadow → IsResult (rules guard) log text reported) → WasRead limit began now (λ bytes. IsReplayUnder (rules guard) bytes text reported)
 is_replayed {G} rules guard first limit began now harts after shadow text reported same few played result = record {
   bytes = played.bytes;
   consumed = played.consumed;
@@ -93,7 +93,7 @@ is_replayed {G} rules guard first limit began now harts after shadow text report
   holds = record {
     log = played.holds.log;
     read = played.holds.only.text;
-    result = result played.holds.log (played.holds.same ∙ sym few) (subst (λ (g : G). Stands (rules g) played.holds.log.pages (events_of played.holds.log.lines) shadow) same played.holds.stands);
+    result = result played.holds.log (played.holds.same ∙ sym few) (subst (λ (g : G). Represents (rules g) played.holds.log.pages (events_of played.holds.log.lines) shadow) same played.holds.stands);
   };
 }
 

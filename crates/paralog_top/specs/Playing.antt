@@ -7,14 +7,14 @@ use Rattle.log_text.specs.Reading.{IsOnly}
 use Rattle.log_text.specs.Streaming.{IsStreamed, WasRead}
 use Rattle.lifeguard.specs.Rules.{Rules}
 use Rattle.lifeguard.specs.declared.shadow.Shadow.{Shadow}
-use Rattle.lifeguard.specs.Stands.{Stands}
+use Rattle.lifeguard.specs.Shadow.{Represents}
 
 -- the events of the lines that were read were played
 pub record IsPlaying (rules : Rules) (harts limit : ℕ) (began now : Option (List ℕ)) (stream : LogStream) (shadow : Shadow) : Type 0 where
   pub log : Log
   pub same : log.harts ≡ harts
   pub read : IsStreamed limit began now stream log
-  pub stands : Stands rules log.pages (events_of log.lines) shadow
+  pub stands : Represents rules log.pages (events_of log.lines) shadow
 
 -- of some source and limit
 pub record IsPlayingSome (rules : Rules) (harts : ℕ) (now : Option (List ℕ)) (stream : LogStream) (shadow : Shadow) : Type 0 where
@@ -27,7 +27,7 @@ pub record IsPlayed (rules : Rules) (harts : ℕ) (bytes : List ℕ) (shadow : S
   pub log : Log
   pub same : log.harts ≡ harts
   pub only : IsOnly bytes log
-  pub stands : Stands rules log.pages (events_of log.lines) shadow
+  pub stands : Represents rules log.pages (events_of log.lines) shadow
 
 -- the source was read to its end
 abbrev pub WasPlayed : Rules → ℕ → ℕ → Option (List ℕ) → Option (List ℕ) → Shadow → Type 0

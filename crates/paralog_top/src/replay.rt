@@ -7,7 +7,7 @@ ghost use Rattle.pl_event.specs.declared.log.PageRun.{PageRun};
 ghost use Rattle.pl_event.specs.Numbers.{event_of};
 ghost use Rattle.log_text.specs.Parts.{IsValidRecord};
 ghost use Rattle.log_text.specs.Streaming.{IsStreamed, WasRead, IsEnd, begun_log, bytes_ahead};
-ghost use Rattle.lifeguard.specs.Stands.{Stands, place_of};
+ghost use Rattle.lifeguard.specs.Shadow.{Represents, place_of};
 ghost use Rattle.paralog_top.specs.Defined.{IsReplay, IsReplayUnder};
 ghost use Rattle.paralog_top.specs.Playing.{IsPlaying, IsPlayingSome, WasPlayed};
 
@@ -147,8 +147,8 @@ fn play_row<L: Lifeguard, S: Source>(
 fn apply_record<L: Lifeguard>(monitor: &mut PlainMonitor<L>, what: Record) -> Result<(), NoMemory>
     requires valid { IsValidRecord monitor.old.harts what }
     requires room { place_of monitor.old.shadow < 2000000 }
-    ensures stands { OnOk result ((pages : List PageRun) (events : List Event) → Stands (L.rules monitor.old.guard) pages events monitor.old.shadow
-        → Stands (L.rules monitor.old.guard) pages (events ++ cons_option (event_of what) []) monitor.new.shadow) }
+    ensures stands { OnOk result ((pages : List PageRun) (events : List Event) → Represents (L.rules monitor.old.guard) pages events monitor.old.shadow
+        → Represents (L.rules monitor.old.guard) pages (events ++ cons_option (event_of what) []) monitor.new.shadow) }
     ensures guard { monitor.new.guard ≡ monitor.old.guard }
     ensures harts { monitor.new.harts ≡ monitor.old.harts }
 {

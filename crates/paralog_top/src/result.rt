@@ -1,7 +1,7 @@
 ghost use Rattle.std.specs.Prelude.{◌≡◌, ◌<◌, ◌≤◌, IfOk};
 ghost use Rattle.pl_event.specs.declared.log.Log.{Log};
 ghost use Rattle.pl_event.specs.Numbers.{events_of};
-ghost use Rattle.lifeguard.specs.Stands.{Stands, state_of};
+ghost use Rattle.lifeguard.specs.Shadow.{Represents, state_of};
 ghost use Rattle.paralog_top.specs.Defined.{IsResult, mask_row, mask_rows};
 
 use crate::answer::Answer;
@@ -16,7 +16,7 @@ pub fn result_of<L: Lifeguard>(
     guard: L,
     monitor: &PlainMonitor<L>,
 ) -> Result<Answer, NoMemory>
-    ensures { (log : Log) → log.harts ≡ monitor.now.harts → Stands (L.rules guard) log.pages (events_of log.lines) monitor.now.shadow
+    ensures { (log : Log) → log.harts ≡ monitor.now.harts → Represents (L.rules guard) log.pages (events_of log.lines) monitor.now.shadow
         → IfOk result (λ answer. IsResult (L.rules guard) log answer.text.items answer.reported) }
 {
     let masks = mask_table(alloc, monitor)?;

@@ -3,7 +3,7 @@ ghost use Rattle.std.specs.List.{cons_option};
 ghost use Rattle.pl_event.specs.declared.event.Event.{Event};
 ghost use Rattle.pl_event.specs.declared.log.PageRun.{PageRun};
 ghost use Rattle.pl_event.specs.Numbers.{events_of, event_of};
-ghost use Rattle.lifeguard.specs.Stands.{Stands, place_of};
+ghost use Rattle.lifeguard.specs.Shadow.{Represents, place_of};
 ghost use Rattle.replay_probes.specs.CanPlay.{CanPlay, CanPlayLine, CanPlayRecord};
 ghost use Rattle.replay_probes.specs.Meaning.{Meaning, line_over};
 ghost use Rattle.replay_probes.specs.Plays.{Plays};
@@ -29,7 +29,7 @@ pub fn replay<L: Lifeguard>(
 ) -> Result<Replayed<L>, NoMemory>
     requires playable { CanPlay log.now }
     requires fresh { All (λ probe. has_seen probe []) probes.items }
-    ensures stands { IfOk result (λ replayed. Stands (L.rules l) log.now.pages (events_of log.now.lines) replayed.monitor.shadow) }
+    ensures stands { IfOk result (λ replayed. Represents (L.rules l) log.now.pages (events_of log.now.lines) replayed.monitor.shadow) }
     ensures guard { IfOk result (λ replayed. replayed.monitor.guard ≡ l) }
     ensures harts { IfOk result (λ replayed. replayed.monitor.harts ≡ log.now.harts) }
     ensures lines { IfOk result (λ replayed. map (λ line. line.items) replayed.lines.items

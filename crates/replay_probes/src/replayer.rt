@@ -1,5 +1,5 @@
 ghost use Rattle.std.specs.Prelude.{◌≡◌};
-ghost use Rattle.lifeguard.specs.Stands.{place_of};
+ghost use Rattle.lifeguard.specs.Shadow.{place_of};
 ghost use Rattle.replay_probes.specs.Watched.{place_of as place_of_audience};
 
 use crate::audience::Audience;

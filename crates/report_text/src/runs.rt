@@ -1,7 +1,7 @@
 ghost use Rattle.std.specs.Prelude.{◌≡◌, ℕ, true, ◌<◌, ◌≤◌, ◌+◌, ◌^◌, ◌++◌, length, slice_index, IfOk, OnOk};
 ghost use Rattle.lifeguard.specs.State.{Bytes, nibble_at};
 ghost use Rattle.lifeguard.specs.Pages.{IsPage};
-ghost use Rattle.lifeguard.specs.Stands.{state_of, bytes_of};
+ghost use Rattle.lifeguard.specs.Shadow.{state_of, bytes_of};
 ghost use Rattle.report_text.specs.Runs.{runs_from, runs_of, AreLongestRuns, ended_run};
 
 use lifeguard::{Lifeguard, PAGE_BYTES, PlainMonitor};

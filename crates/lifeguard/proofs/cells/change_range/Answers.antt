@@ -1,6 +1,6 @@
 use Rattle.std.proofs.Common.{◌≡◌, ◌+◌, ◌-◌, arith, sym, ◌∙◌}
 use Rattle.std.specs.Prelude.{option_map}
-use Rattle.lifeguard.specs.Stands.{bytes_of}
+use Rattle.lifeguard.specs.Shadow.{bytes_of}
 use Rattle.lifeguard.proofs.CellLemmas.{written_next, changed-written}
 use Rattle.lifeguard.proofs.cells.change_range.Goals as goal
 

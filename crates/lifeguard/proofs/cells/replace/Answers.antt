@@ -1,5 +1,5 @@
 use Rattle.std.proofs.Common.{◌≡◌, ◌+◌, ◌-◌, arith, sym, ◌∙◌, refl}
-use Rattle.lifeguard.specs.Stands.{bytes_of, cell_value}
+use Rattle.lifeguard.specs.Shadow.{bytes_of, cell_value}
 use Rattle.lifeguard.proofs.CellLemmas.{written_next, replaced-written}
 use Rattle.lifeguard.proofs.cells.replace.Goals as goal
 

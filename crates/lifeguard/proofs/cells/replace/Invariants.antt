@@ -1,5 +1,5 @@
 use Rattle.std.proofs.Common.{◌≡◌, ◌-◌}
-use Rattle.lifeguard.specs.Stands.{bytes_of, cell_value}
+use Rattle.lifeguard.specs.Shadow.{bytes_of, cell_value}
 use Rattle.lifeguard.proofs.CellLemmas.{written}
 use Rattle.lifeguard.proofs.cells.replace.Given as goal
 

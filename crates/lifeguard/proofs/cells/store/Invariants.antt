@@ -1,7 +1,7 @@
 use Rattle.std.proofs.Common.{◌≡◌}
 use Rattle.std.specs.Prelude.{option_map}
 use Rattle.lifeguard.specs.Plain.{mask_bit}
-use Rattle.lifeguard.specs.Stands.{bytes_of}
+use Rattle.lifeguard.specs.Shadow.{bytes_of}
 use Rattle.lifeguard.proofs.CellLemmas.{written}
 use Rattle.lifeguard.proofs.cells.store.Given as goal
 

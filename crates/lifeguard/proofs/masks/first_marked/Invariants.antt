@@ -1,6 +1,6 @@
 use Rattle.std.proofs.Common.{◌≡◌, not, drop}
 use Rattle.std.specs.Prelude.{find, ◌==◌}
-use Rattle.lifeguard.specs.Stands.{masks_of}
+use Rattle.lifeguard.specs.Shadow.{masks_of}
 use Rattle.lifeguard.proofs.masks.first_marked.Given as goal
 
 abbrev pub invariant-loop-reg : goal.invariant-loop-reg

@@ -1,6 +1,6 @@
 use Rattle.std.proofs.Common.{arith, sym}
 use Rattle.lifeguard.proofs.MaskLemmas.{masks_of-set, with_mask_zero}
-use Rattle.lifeguard.specs.Stands.{masks_of}
+use Rattle.lifeguard.specs.Shadow.{masks_of}
 use Rattle.lifeguard.proofs.masks.set_mask.Goals as goal
 
 pub returns-then-reg-ne0 : goal.returns-then-reg-ne0

@@ -1,5 +1,5 @@
 use Rattle.std.proofs.Common.{ℕ, ◌/◌, ◌%◌, List, sym, ap, ◌∙◌}
-use Rattle.lifeguard.specs.Stands.{bytes_of}
+use Rattle.lifeguard.specs.Shadow.{bytes_of}
 use Rattle.lifeguard.proofs.PageLemmas.{page_is, bytes_in-page, bytes_in_past}
 use Rattle.lifeguard.proofs.pages.byte_in.Goals as goal
 

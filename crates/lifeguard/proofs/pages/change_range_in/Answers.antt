@@ -1,5 +1,5 @@
 use Rattle.std.proofs.Common.{◌≡◌, ◌+◌, arith, sym, ◌∙◌}
-use Rattle.lifeguard.specs.Stands.{bytes_in}
+use Rattle.lifeguard.specs.Shadow.{bytes_in}
 use Rattle.std.specs.Prelude.{option_map}
 use Rattle.lifeguard.proofs.CellLemmas.{changed-written}
 use Rattle.lifeguard.proofs.PageLemmas.{written_more}

@@ -1,6 +1,6 @@
 use Rattle.std.proofs.Common.{◌≡◌, ◌+◌, ◌-◌, ◌*◌, arith, sym, ◌∙◌}
-use Rattle.lifeguard.specs.Stands.{bytes_in}
-use Rattle.lifeguard.specs.Stands.{cell_value}
+use Rattle.lifeguard.specs.Shadow.{bytes_in}
+use Rattle.lifeguard.specs.Shadow.{cell_value}
 use Rattle.lifeguard.proofs.CellLemmas.{replaced-written}
 use Rattle.lifeguard.proofs.PageLemmas.{pages_more, room_rest}
 use Rattle.lifeguard.proofs.pages.fill_pages.Goals as goal

@@ -1,6 +1,6 @@
 use Rattle.std.proofs.Common.{◌≡◌, ◌-◌, ◌+◌, ◌*◌}
 use Rattle.lifeguard.specs.Pages.{HasRoom}
-use Rattle.lifeguard.specs.Stands.{bytes_in, cell_value}
+use Rattle.lifeguard.specs.Shadow.{bytes_in, cell_value}
 use Rattle.lifeguard.proofs.CellLemmas.{written}
 use Rattle.lifeguard.proofs.pages.fill_pages.Given as goal
 

@@ -1,7 +1,7 @@
 use Rattle.std.proofs.Common.{◌+◌, arith, sym, ◌∙◌, ap}
 use Rattle.lifeguard.specs.Checks.{is_bad}
 use Rattle.lifeguard.specs.State.{nibble_at}
-use Rattle.lifeguard.specs.Stands.{bytes_in}
+use Rattle.lifeguard.specs.Shadow.{bytes_in}
 use Rattle.lifeguard.proofs.CellLemmas.{find_next}
 use Rattle.lifeguard.proofs.pages.first_bad_in.Goals as goal
 

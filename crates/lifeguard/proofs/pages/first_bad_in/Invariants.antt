@@ -2,7 +2,7 @@ use Rattle.std.proofs.Common.{◌≡◌, ◌+◌, ◌-◌}
 use Rattle.std.specs.Prelude.{find}
 use Rattle.lifeguard.specs.Checks.{is_bad}
 use Rattle.lifeguard.specs.State.{nibble_at, span}
-use Rattle.lifeguard.specs.Stands.{bytes_in}
+use Rattle.lifeguard.specs.Shadow.{bytes_in}
 use Rattle.lifeguard.proofs.pages.first_bad_in.Given as goal
 
 abbrev pub invariant-loop-at : goal.invariant-loop-at

@@ -1,5 +1,5 @@
 use Rattle.std.proofs.Common.{ℕ, ◌/◌, ◌%◌, List, arith, ap, ◌∙◌}
-use Rattle.lifeguard.specs.Stands.{bytes_of}
+use Rattle.lifeguard.specs.Shadow.{bytes_of}
 use Rattle.lifeguard.specs.Plain.{loaded_mask}
 use Rattle.lifeguard.proofs.PageLemmas.{page_is, loaded_mask-page}
 use Rattle.lifeguard.proofs.pages.loaded_mask_on_page.Goals as goal

@@ -1,6 +1,6 @@
 use Rattle.std.proofs.Common.{◌≡◌, ◌-◌}
 use Rattle.lifeguard.specs.Pages.{HasRoom}
-use Rattle.lifeguard.specs.Stands.{bytes_in}
+use Rattle.lifeguard.specs.Shadow.{bytes_in}
 use Rattle.lifeguard.proofs.pages.make_room.Given as goal
 
 abbrev pub invariant-loop-number : goal.invariant-loop-number

@@ -4,7 +4,7 @@ use Rattle.std.proofs.lemmas.List.Sums.{fold_more}
 use Rattle.pl_event.specs.declared.log.PageKind.TheVariants.{Data}
 use Rattle.pl_event.specs.declared.log.PageRun.{PageRun}
 use Rattle.lifeguard.specs.State.{Bytes, paged}
-use Rattle.lifeguard.specs.Stands.{bytes_in}
+use Rattle.lifeguard.specs.Shadow.{bytes_in}
 use Rattle.lifeguard.proofs.pages.map_runs.Goals as goal
 
 pub loop-run-preserved : goal.loop-run-preserved

@@ -1,7 +1,7 @@
 use Rattle.std.proofs.Common.{◌≡◌, take}
 use Rattle.std.specs.Prelude.{fold, Some}
 use Rattle.lifeguard.specs.State.{paged}
-use Rattle.lifeguard.specs.Stands.{bytes_in}
+use Rattle.lifeguard.specs.Shadow.{bytes_in}
 use Rattle.lifeguard.proofs.pages.map_runs.Given as goal
 
 abbrev pub invariant-loop-run : goal.invariant-loop-run

@@ -1,5 +1,5 @@
 use Rattle.std.proofs.Common.{ℕ, ◌/◌, ◌%◌, List, Option, arith, sym, ap, ◌∙◌}
-use Rattle.lifeguard.specs.Stands.{bytes_of}
+use Rattle.lifeguard.specs.Shadow.{bytes_of}
 use Rattle.lifeguard.proofs.PageLemmas.{page_is, bytes_in-page}
 use Rattle.std.proofs.Common.{unwrap_or}
 use Rattle.lifeguard.proofs.pages.nibble_in.Goals as goal

@@ -1,5 +1,5 @@
 use Rattle.std.proofs.Common.{◌≡◌, ◌-◌, ◌*◌, None, arith, sym, ap, ◌∙◌}
-use Rattle.lifeguard.specs.Stands.{bytes_of, bytes_in}
+use Rattle.lifeguard.specs.Shadow.{bytes_of, bytes_in}
 use Rattle.lifeguard.specs.State.{nothing}
 use Rattle.lifeguard.proofs.CellLemmas.{replaced-written}
 use Rattle.lifeguard.proofs.PageLemmas.{pages_more, cleared}

@@ -1,5 +1,5 @@
 use Rattle.std.proofs.Common.{◌≡◌, ◌-◌, ◌*◌, None}
-use Rattle.lifeguard.specs.Stands.{bytes_in}
+use Rattle.lifeguard.specs.Shadow.{bytes_in}
 use Rattle.lifeguard.proofs.CellLemmas.{written}
 use Rattle.lifeguard.proofs.pages.unmap_pages.Given as goal
 

@@ -1,5 +1,5 @@
 use Rattle.std.proofs.Common.{◌∙◌, ◌++◌, ◌∷◌, [], List, ℕ, ap, sym}
-use Rattle.lifeguard.specs.Stands.{state_of}
+use Rattle.lifeguard.specs.Shadow.{state_of}
 use Rattle.paralog_top.specs.Defined.{mask_row}
 use Rattle.paralog_top.proofs.RowLemmas.{map_span-more}
 use Rattle.paralog_top.proofs.result.mask_table.Goals as goal

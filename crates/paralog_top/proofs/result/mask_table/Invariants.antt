@@ -1,6 +1,6 @@
 use Rattle.std.proofs.Common.{◌≡◌, map}
 use Rattle.lifeguard.specs.State.{span}
-use Rattle.lifeguard.specs.Stands.{state_of}
+use Rattle.lifeguard.specs.Shadow.{state_of}
 use Rattle.paralog_top.specs.Defined.{mask_row}
 use Rattle.paralog_top.proofs.result.mask_table.Given as goal
 

@@ -1,5 +1,5 @@
 use Rattle.std.proofs.Common.{arith, rules}
-use Rattle.lifeguard.specs.Stands.{state_of}
+use Rattle.lifeguard.specs.Shadow.{state_of}
 use Rattle.paralog_top.proofs.RowLemmas.{row-more}
 use Rattle.paralog_top.proofs.result.masks_of.Goals as goal
 

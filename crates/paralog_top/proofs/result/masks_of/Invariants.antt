@@ -1,6 +1,6 @@
 use Rattle.std.proofs.Common.{◌≡◌, length, take, map}
 use Rattle.lifeguard.specs.State.{span}
-use Rattle.lifeguard.specs.Stands.{state_of}
+use Rattle.lifeguard.specs.Shadow.{state_of}
 use Rattle.paralog_top.proofs.result.masks_of.Given as goal
 
 abbrev pub invariant-loop-register : goal.invariant-loop-register

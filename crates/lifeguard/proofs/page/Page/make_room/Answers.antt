@@ -1,6 +1,6 @@
 use Rattle.std.proofs.Common.{◌≡◌, length, arith, sym, ap, ◌∙◌, vec_len}
 use Rattle.std.proofs.lemmas.Bool.{eqb-true}
-use Rattle.lifeguard.specs.Stands.{bytes_of}
+use Rattle.lifeguard.specs.Shadow.{bytes_of}
 use Rattle.lifeguard.proofs.PageLemmas.{room_same}
 use Rattle.lifeguard.proofs.page.Page.make_room.Goals as goal
 

@@ -1,5 +1,5 @@
 use Rattle.std.proofs.Common.{ℕ, List, arith, ap, ◌∙◌}
-use Rattle.lifeguard.specs.Stands.{bytes_of}
+use Rattle.lifeguard.specs.Shadow.{bytes_of}
 use Rattle.lifeguard.proofs.PageLemmas.{page_is, bytes_in-at}
 use Rattle.lifeguard.proofs.shadow.Shadow.page.Goals as goal
 

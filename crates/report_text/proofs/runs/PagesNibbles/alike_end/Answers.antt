@@ -1,5 +1,5 @@
 use Rattle.std.proofs.Common.{◌≡◌, ℕ, ◌+◌, ◌*◌, ◌/◌, ◌%◌, ◌<◌, Option, unwrap_or, arith, sym, ap, ◌∙◌}
-use Rattle.lifeguard.specs.Stands.{bytes_in}
+use Rattle.lifeguard.specs.Shadow.{bytes_in}
 use Rattle.report_text.proofs.runs.PagesNibbles.alike_end.Goals as goal
 
 pub returns-clause-alike : goal.returns-clause-alike

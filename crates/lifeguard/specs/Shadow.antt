@@ -5,7 +5,7 @@ use Rattle.pl_event.specs.declared.log.PageRun.{PageRun}
 use Rattle.pl_event.specs.Numbers.{events_on}
 use Rattle.lifeguard.specs.declared.shadow.Shadow.{Shadow}
 use Rattle.lifeguard.specs.declared.report.Report.{Report}
-use Rattle.lifeguard.specs.declared.report.Stand.{Stand}
+use Rattle.lifeguard.specs.declared.report.EventPlace.{EventPlace}
 use Rattle.lifeguard.specs.Pages.{page_of}
 use Rattle.lifeguard.specs.Rules.{Rules}
 use Rattle.lifeguard.specs.State.{State, Bytes, Masks, first_state}
@@ -36,11 +36,11 @@ abbrev pub place_of : Shadow → ℕ
 place_of shadow = shadow.place
 
 -- where the next event of a hart stands
-abbrev pub next_stand : Shadow → ℕ → Stand
-next_stand shadow hart = record { place = shadow.place + 1; hart = hart; number = slice_index shadow.counts hart + 1 }
+abbrev pub next_place : Shadow → ℕ → EventPlace
+next_place shadow hart = record { place = shadow.place + 1; hart = hart; number = slice_index shadow.counts hart + 1 }
 
 -- the shadow state is the plain result of these events
-pub record Stands (rules : Rules) (pages : List PageRun) (events : List Event) (shadow : Shadow) : Type 0 where
+pub record Represents (rules : Rules) (pages : List PageRun) (events : List Event) (shadow : Shadow) : Type 0 where
   pub state : state_of shadow ≡ plain_result rules pages events
   pub place : shadow.place ≡ length events
   pub counts : (h : ℕ) → h < 8 → slice_index shadow.counts h ≡ events_on h events
@@ -53,7 +53,7 @@ pub record Begins (rules : Rules) (pages : List PageRun) (shadow : Shadow) : Typ
 
 -- one event was applied
 pub record IsStep (rules : Rules) (event : Event) (old new : Shadow) : Type 0 where
-  pub state : state_of new ≡ rule rules (next_stand old event.hart) event.kind (state_of old)
+  pub state : state_of new ≡ rule rules (next_place old event.hart) event.kind (state_of old)
   pub place : new.place ≡ old.place + 1
   pub counts : (h : ℕ) → h < 8 → slice_index new.counts h ≡ slice_index old.counts h + (if event.hart == h then 1 else 0)
 

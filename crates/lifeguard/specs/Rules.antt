@@ -1,5 +1,6 @@
 -- What a lifeguard makes of nibbles, masks and kinds of event.
 use Rattle.std.specs.Prelude.{◌≡◌, ◌≢◌, ℕ, ◌<◌, ◌≤◌, Bool, true, false, ◌&&◌, ◌==◌, List, [], ◌∷◌, length, All, if◌then◌else◌}
+use Rattle.pl_base.specs.declared.layout.TheConstants.{REGISTERS}
 use Rattle.pl_event.specs.declared.event.Kind.{Kind}
 use Rattle.pl_event.specs.declared.event.Kind.TheVariants.{Ld, St, Op, Mv, Im, Br, Jr, Al, Fr, Bf, Mp, Um, Rd, Wr, Ex, Ft}
 use Rattle.pl_event.specs.declared.log.PageKind.{PageKind}
@@ -48,7 +49,7 @@ pub record KeepsLaws (rules : Rules) : Type 0 where
   pub store_below : (nibble : ℕ) (bit : Bool) → nibble < 8 → rules.store_nibble nibble bit < 8
   pub range_below : (kind : RangeKind) (nibble : ℕ) → nibble < 8 → rules.range_state kind nibble < 8
   pub checked_few : (kind : Kind) → length (rules.checked kind) ≤ 3
-  pub checked_below : (kind : Kind) → All (λ register. register < 34) (registers_of kind) → All (λ register. register < 34) (rules.checked kind)
+  pub checked_below : (kind : Kind) → All (λ register. register < REGISTERS) (registers_of kind) → All (λ register. register < REGISTERS) (rules.checked kind)
   pub addr_stores : rules.name ≡ name.Addr → (nibble : ℕ) (bit : Bool) → nibble < 8 → rules.store_nibble nibble bit ≡ nibble
   pub addr_loads : rules.name ≡ name.Addr → (nibble : ℕ) → nibble < 8 → rules.load_bit nibble ≡ false
   pub taint_access : rules.name ≡ name.Taint → (nibble : ℕ) → nibble < 8 → rules.bad_access nibble ≡ false

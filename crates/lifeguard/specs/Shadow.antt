@@ -1,5 +1,6 @@
 -- What a monitor keeps, as a state, and what it stands for.
 use Rattle.std.specs.Prelude.{◌≡◌, ℕ, ◌+◌, ◌/◌, ◌%◌, ◌<◌, List, [], length, Option, Some, None, slice_index, slice_index_or, ◌==◌, nat_lt, if◌then◌else◌}
+use Rattle.pl_base.specs.declared.layout.TheConstants.{PAGE_BYTES, MAX_HARTS}
 use Rattle.pl_event.specs.declared.event.Event.{Event}
 use Rattle.pl_event.specs.declared.log.PageRun.{PageRun}
 use Rattle.pl_event.specs.Numbers.{events_on}
@@ -20,7 +21,7 @@ bytes_of cells a = cell_value (slice_index_or cells a 8)
 
 -- the bytes of pages of 4,096 cells, or of none where no byte is mapped
 unfoldable pub bytes_in : List (List ℕ) → Bytes
-bytes_in pages a = bytes_of (page_of pages (a / 4096)) (a % 4096)
+bytes_in pages a = bytes_of (page_of pages (a / PAGE_BYTES)) (a % PAGE_BYTES)
 
 unfoldable pub masks_of : List (List ℕ) → Masks
 masks_of masks h r = slice_index (slice_index_or masks h []) r
@@ -43,7 +44,7 @@ next_place shadow hart = record { place = shadow.place + 1; hart = hart; number 
 pub record Represents (rules : Rules) (pages : List PageRun) (events : List Event) (shadow : Shadow) : Type 0 where
   pub state : state_of shadow ≡ plain_result rules pages events
   pub place : shadow.place ≡ length events
-  pub counts : (h : ℕ) → h < 8 → slice_index shadow.counts h ≡ events_on h events
+  pub counts : (h : ℕ) → h < MAX_HARTS → slice_index shadow.counts h ≡ events_on h events
 
 -- no event was applied yet
 pub record Begins (rules : Rules) (pages : List PageRun) (shadow : Shadow) : Type 0 where
@@ -55,7 +56,7 @@ pub record Begins (rules : Rules) (pages : List PageRun) (shadow : Shadow) : Typ
 pub record IsStep (rules : Rules) (event : Event) (old new : Shadow) : Type 0 where
   pub state : state_of new ≡ rule rules (next_place old event.hart) event.kind (state_of old)
   pub place : new.place ≡ old.place + 1
-  pub counts : (h : ℕ) → h < 8 → slice_index new.counts h ≡ slice_index old.counts h + (if event.hart == h then 1 else 0)
+  pub counts : (h : ℕ) → h < MAX_HARTS → slice_index new.counts h ≡ slice_index old.counts h + (if event.hart == h then 1 else 0)
 
 -- nothing that a monitor shows has changed
 pub record IsUnchanged (old new : Shadow) : Type 0 where

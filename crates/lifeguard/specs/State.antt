@@ -1,5 +1,6 @@
 -- The state of a lifeguard: nibbles of mapped bytes, masks of registers, and reports.
 use Rattle.std.specs.Prelude.{ℕ, zero, suc, ◌+◌, ◌-◌, ◌*◌, Bool, not, ◌&&◌, ◌==◌, nat_lt, nat_le, List, [], ◌∷◌, Option, Some, None, option_map, unwrap_or, fold, if◌then◌else◌}
+use Rattle.pl_base.specs.declared.layout.TheConstants.{PAGE_BYTES}
 use Rattle.pl_event.specs.declared.log.PageRun.{PageRun}
 use Rattle.lifeguard.specs.declared.report.Report.{Report}
 use Rattle.lifeguard.specs.Rules.{Rules}
@@ -39,7 +40,7 @@ replaced value addr len bytes a = if is_in addr len a then value else bytes a
 
 -- pages of 4,096 bytes, all mapped with one nibble or all unmapped
 abbrev pub paged : Option ℕ → ℕ → ℕ → Bytes → Bytes
-paged value first count bytes = replaced value (first * 4096) (count * 4096) bytes
+paged value first count bytes = replaced value (first * PAGE_BYTES) (count * PAGE_BYTES) bytes
 
 -- register 0 keeps its mask
 unfoldable pub with_mask : ℕ → ℕ → ℕ → Masks → Masks

@@ -22,7 +22,6 @@ mod shadow;
 pub use calls::call_registers;
 pub use guard::{CheckedRegs, Lifeguard, Name, RangeKind, load_mask};
 pub use laws::{few_reports, other_harts_keep, values_in_range};
-pub use page::PAGE_BYTES;
 pub use plain::PlainMonitor;
 pub use report::{EventPlace, Report, ReportKind};
 pub use rules::{misdeed, push_found, push_misdeed, register_report};

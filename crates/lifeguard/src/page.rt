@@ -3,11 +3,9 @@
 use crate::cells::{UNMAPPED, change_range, replace, store};
 use crate::guard::{Lifeguard, RangeKind};
 use pl_base::NoMemory;
+use pl_base::layout::PAGE_BYTES;
 use std::alloc::Global;
 use std::marker::Model;
-
-/// How many bytes a page has.
-pub const PAGE_BYTES: u32 = 4096;
 
 /// The cells of a page: one for each of its bytes, or none while no byte of it is mapped.
 #[derive(Drop)]
@@ -54,7 +52,7 @@ impl Page {
 
     /// Makes cells where there are none. They stand for what none stood for: no byte is mapped.
     pub fn make_room(&mut self) -> Result<(), NoMemory>
-        ensures room { OnOk result (length self.new ≡ 4096) }
+        ensures room { OnOk result (length self.new ≡ PAGE_BYTES) }
         ensures same { bytes_of self.new ≡ bytes_of self.old }
     {
         if self.cells.is_empty() {
@@ -65,7 +63,7 @@ impl Page {
 
     /// Changes the nibbles of a range that is taken, given back or read from outside.
     pub fn change<L: Lifeguard>(&mut self, guard: L, kind: RangeKind, at: u32, len: u32)
-        requires inside { at + len ≤ 4096 }
+        requires inside { at + len ≤ PAGE_BYTES }
         ensures { bytes_of self.new ≡ changed (λ i old. (L.rules guard).range_state kind old) at len (bytes_of self.old) }
     {
         if !self.cells.is_empty() {
@@ -77,7 +75,7 @@ impl Page {
     #[inline]
     pub fn store<L: Lifeguard>(&mut self, guard: L, mask: u8, at: u32, len: u8)
         requires few { len ≤ 8 }
-        requires inside { at + len ≤ 4096 }
+        requires inside { at + len ≤ PAGE_BYTES }
         ensures { bytes_of self.new ≡ stored (L.rules guard) mask at len (bytes_of self.old) }
     {
         if !self.cells.is_empty() {
@@ -87,8 +85,8 @@ impl Page {
 
     /// Writes one cell into the whole page.
     pub fn fill(&mut self, cell: u8)
-        requires room { length self.old ≡ 4096 }
-        ensures { bytes_of self.new ≡ replaced (cell_value cell) 0 4096 (bytes_of self.old) }
+        requires room { length self.old ≡ PAGE_BYTES }
+        ensures { bytes_of self.new ≡ replaced (cell_value cell) 0 PAGE_BYTES (bytes_of self.old) }
     {
         replace(&mut self.cells, cell, 0, PAGE_BYTES);
     }

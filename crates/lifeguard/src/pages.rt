@@ -1,5 +1,6 @@
 //! The cells of all memory, page by page.
 ghost use Rattle.std.specs.Prelude.{◌≡◌, ℕ, ◌+◌, ◌*◌, ◌%◌, ◌<◌, ◌≤◌, ◌^◌, [], length, find, All, fold, IfOk, OnOk, vec_len, replicate};
+ghost use Rattle.pl_base.specs.declared.layout.TheConstants.{PAGE_COUNT};
 ghost use Rattle.pl_base.specs.Widths.{load_bytes};
 ghost use Rattle.lifeguard.specs.Rules.{Rules};
 ghost use Rattle.lifeguard.specs.State.{changed, paged, nothing, nibble_at as nibble_of_byte, span};
@@ -10,7 +11,8 @@ ghost use Rattle.lifeguard.specs.Checks.{is_bad as is_bad_nibble};
 
 use crate::cells::{Check, byte_at, first_bad, is_bad, loaded_mask, nibble_at};
 use crate::guard::{Lifeguard, RangeKind};
-use crate::page::{PAGE_BYTES, Page};
+use crate::page::Page;
+use pl_base::layout::PAGE_BYTES;
 use pl_base::{LoadWidth, NoMemory};
 use pl_event::{PageKind, PageRun};
 use std::alloc::Global;
@@ -43,7 +45,7 @@ pub fn byte_in(pages: &[Page], addr: u32) -> Option<u8>
 /// The nibble that a byte reads as.
 #[inline]
 fn nibble_in(pages: &[Page], addr: u32) -> u8
-    requires { addr < 4096 * length pages.now }
+    requires { addr < PAGE_BYTES * length pages.now }
     ensures value { result ≡ nibble_of_byte (bytes_in pages.now) addr }
     ensures small { result < 8 }
 {
@@ -61,7 +63,7 @@ pub fn first_bad_in<L: Lifeguard>(
     addr: u32,
     len: u32,
 ) -> Option<u32>
-    requires inside { addr + len ≤ 4096 * length pages.now }
+    requires inside { addr + len ≤ PAGE_BYTES * length pages.now }
     requires below { addr + len < 2 ^ 32 }
     ensures { result ≡ find (λ a. is_bad_nibble (L.rules guard) check (nibble_of_byte (bytes_in pages.now) a)) (span addr len) }
 {
@@ -82,8 +84,8 @@ pub fn first_bad_on_page<L: Lifeguard>(
     addr: u32,
     len: u32,
 ) -> Option<u32>
-    requires inside { addr < 4096 * length pages.now }
-    requires within { addr % 4096 + len ≤ 4096 }
+    requires inside { addr < PAGE_BYTES * length pages.now }
+    requires within { addr % PAGE_BYTES + len ≤ PAGE_BYTES }
     ensures { result ≡ find (λ a. is_bad_nibble (L.rules guard) check (nibble_of_byte (bytes_in pages.now) a)) (span addr len) }
 {
     let place = addr % PAGE_BYTES;
@@ -102,8 +104,8 @@ pub fn loaded_mask_on_page<L: Lifeguard>(
     pages: &[Page],
     addr: u32,
 ) -> u8
-    requires inside { addr < 4096 * length pages.now }
-    requires within { addr % 4096 + load_bytes width ≤ 4096 }
+    requires inside { addr < PAGE_BYTES * length pages.now }
+    requires within { addr % PAGE_BYTES + load_bytes width ≤ PAGE_BYTES }
     ensures { result ≡ mask_of_bytes (L.rules guard) width (bytes_in pages.now) addr }
 {
     let cells = pages[(addr / PAGE_BYTES) as usize].cells();
@@ -114,8 +116,8 @@ pub fn loaded_mask_on_page<L: Lifeguard>(
 #[inline]
 pub fn store_on_page<L: Lifeguard>(guard: L, mask: u8, pages: &mut [Page], addr: u32, len: u8)
     requires few { len ≤ 8 }
-    requires inside { addr < 4096 * length pages.old }
-    requires within { addr % 4096 + len ≤ 4096 }
+    requires inside { addr < PAGE_BYTES * length pages.old }
+    requires within { addr % PAGE_BYTES + len ≤ PAGE_BYTES }
     ensures { bytes_in pages.new ≡ stored (L.rules guard) mask addr len (bytes_in pages.old) }
 {
     let number = (addr / PAGE_BYTES) as usize;
@@ -125,8 +127,8 @@ pub fn store_on_page<L: Lifeguard>(guard: L, mask: u8, pages: &mut [Page], addr:
 /// Changes the nibbles of a range within one page.
 #[inline]
 fn change_on_page<L: Lifeguard>(guard: L, kind: RangeKind, pages: &mut [Page], addr: u32, len: u32)
-    requires inside { addr < 4096 * length pages.old }
-    requires within { addr % 4096 + len ≤ 4096 }
+    requires inside { addr < PAGE_BYTES * length pages.old }
+    requires within { addr % PAGE_BYTES + len ≤ PAGE_BYTES }
     ensures { bytes_in pages.new ≡ changed (λ i old. (L.rules guard).range_state kind old) addr len (bytes_in pages.old) }
 {
     let number = (addr / PAGE_BYTES) as usize;
@@ -141,7 +143,7 @@ pub fn change_range_in<L: Lifeguard>(
     addr: u32,
     len: u32,
 )
-    requires inside { addr + len ≤ 4096 * length pages.old }
+    requires inside { addr + len ≤ PAGE_BYTES * length pages.old }
     requires below { addr + len < 2 ^ 31 }
     ensures { bytes_in pages.new ≡ changed (λ i old. (L.rules guard).range_state kind old) addr len (bytes_in pages.old) }
 {
@@ -202,8 +204,8 @@ pub fn map_runs<L: Lifeguard>(
     pages: &mut [Page],
     runs: &[PageRun],
 ) -> Result<(), NoMemory>
-    requires whole { length pages.old ≡ 4096 }
-    requires inside { All (λ run. run.first + run.count ≤ 4096) runs.now }
+    requires whole { length pages.old ≡ PAGE_COUNT }
+    requires inside { All (λ run. run.first + run.count ≤ PAGE_COUNT) runs.now }
     ensures { OnOk result (bytes_in pages.new ≡ fold (λ bytes run. paged (Some ((L.rules guard).page_state run.kind)) run.first run.count bytes) (bytes_in pages.old) runs.now) }
 {
     for run in runs {

@@ -1,4 +1,5 @@
 ghost use Rattle.std.specs.Prelude.{◌≡◌, ℕ, ◌<◌, ◌≤◌, ◌+◌, ◌*◌, ◌++◌, ◌∷◌, [], List, All, IfOk, OnOk, OnErr};
+ghost use Rattle.pl_base.specs.declared.layout.TheConstants.{PAGE_BYTES, PAGE_COUNT, REGISTERS, MAX_RECORDS};
 ghost use Rattle.pl_event.specs.Valid.{IsValidEvent};
 ghost use Rattle.pl_event.specs.declared.event.Event.{Event};
 ghost use Rattle.pl_event.specs.declared.log.PageRun.{PageRun};
@@ -31,7 +32,7 @@ impl<L: Lifeguard> PlainMonitor<L> {
         pages: &[PageRun],
     ) -> Result<PlainMonitor<L>, NoMemory>
         requires few { harts ≤ 8 }
-        requires inside { All (λ run. run.first + run.count ≤ 4096) pages.now }
+        requires inside { All (λ run. run.first + run.count ≤ PAGE_COUNT) pages.now }
         ensures stands { IfOk result (λ monitor. Represents (L.rules l) pages.now [] monitor.shadow) }
         ensures guard { IfOk result (λ monitor. monitor.guard ≡ l) }
         ensures harts { IfOk result (λ monitor. monitor.harts ≡ harts) }
@@ -64,7 +65,7 @@ impl<L: Lifeguard> PlainMonitor<L> {
     #[inline]
     pub fn apply(&mut self, event: &Event) -> Result<(), NoMemory>
         requires valid { IsValidEvent event.now self.old.harts }
-        requires room { place_of self.old.shadow < 2000000 }
+        requires room { place_of self.old.shadow < MAX_RECORDS }
         ensures stands { OnOk result ((pages : List PageRun) (events : List Event) → Represents (L.rules self.old.guard) pages events self.old.shadow
             → Represents (L.rules self.old.guard) pages (events ++ event.now ∷ []) self.new.shadow) }
         ensures place { OnOk result (place_of self.new.shadow ≡ place_of self.old.shadow + 1) }
@@ -86,7 +87,7 @@ impl<L: Lifeguard> PlainMonitor<L> {
     #[inline]
     pub fn mask(&self, hart: u8, reg: u8) -> u8
         requires hart { hart < self.now.harts }
-        requires register { reg < 34 }
+        requires register { reg < REGISTERS }
         ensures { result ≡ (state_of self.now.shadow).masks hart reg }
     {
         self.shadow.mask(hart, reg)
@@ -96,8 +97,8 @@ impl<L: Lifeguard> PlainMonitor<L> {
     /// Where there are no cells no byte of the page is mapped.
     #[inline]
     pub fn page(&self, page: u16) -> &[u8]
-        requires { page < 4096 }
-        ensures bytes { (a : ℕ) → a < 4096 → bytes_of result.now a ≡ (state_of self.now.shadow).bytes (page * 4096 + a) }
+        requires { page < PAGE_COUNT }
+        ensures bytes { (a : ℕ) → a < PAGE_BYTES → bytes_of result.now a ≡ (state_of self.now.shadow).bytes (page * PAGE_BYTES + a) }
         ensures page { IsPage result.now }
     {
         self.shadow.page(page)

@@ -1,5 +1,6 @@
 //! The plain rules, one table a function: what each kind of event reports, and what it makes of masks and bytes.
 ghost use Rattle.std.specs.Prelude.{◌≡◌, ◌<◌, ◌≤◌, ◌^◌, ◌++◌, [], length, take, OnOk, OnErr};
+ghost use Rattle.pl_base.specs.declared.layout.TheConstants.{PAGE_COUNT, MAX_HARTS};
 ghost use Rattle.pl_event.specs.Valid.{HasValidFields};
 ghost use Rattle.lifeguard.specs.State.{State};
 ghost use Rattle.lifeguard.specs.Shadow.{bytes_in, masks_of, state_from};
@@ -45,7 +46,7 @@ pub fn register_report(kind: &Kind) -> ReportKind
 /// The first checked register whose mask is not 0.
 #[inline]
 fn marked_register<L: Lifeguard>(guard: L, masks: &Masks, hart: u8, kind: &Kind) -> Option<u32>
-    requires hart { hart < 8 }
+    requires hart { hart < MAX_HARTS }
     requires valid { HasValidFields kind.now }
     ensures { result ≡ marked_register_of (L.rules guard) (masks_of masks.now) hart kind.now }
 {
@@ -56,7 +57,7 @@ fn marked_register<L: Lifeguard>(guard: L, masks: &Masks, hart: u8, kind: &Kind)
 /// The first byte whose access is bad.
 #[inline]
 fn bad_touch<L: Lifeguard>(guard: L, pages: &[Page], kind: &Kind) -> Option<u32>
-    requires whole { length pages.now ≡ 4096 }
+    requires whole { length pages.now ≡ PAGE_COUNT }
     requires valid { HasValidFields kind.now }
     ensures { result ≡ bad_touch_of (L.rules guard) (bytes_in pages.now) kind.now }
 {
@@ -88,7 +89,7 @@ fn bad_touch<L: Lifeguard>(guard: L, pages: &[Page], kind: &Kind) -> Option<u32>
 /// The first byte that goes outside and may not.
 #[inline]
 fn bad_sent<L: Lifeguard>(guard: L, pages: &[Page], kind: &Kind) -> Option<u32>
-    requires whole { length pages.now ≡ 4096 }
+    requires whole { length pages.now ≡ PAGE_COUNT }
     requires valid { HasValidFields kind.now }
     ensures { result ≡ bad_sent_of (L.rules guard) (bytes_in pages.now) kind.now }
 {
@@ -194,8 +195,8 @@ fn push_reports<L: Lifeguard>(
     at: EventPlace,
     kind: &Kind,
 ) -> Result<(), NoMemory>
-    requires hart { at.hart < 8 }
-    requires whole { length pages.now ≡ 4096 }
+    requires hart { at.hart < MAX_HARTS }
+    requires whole { length pages.now ≡ PAGE_COUNT }
     requires valid { HasValidFields kind.now }
     ensures ok { OnOk result (reports.new.items ≡ reports.old.items ++ reports_of (L.rules guard) at kind.now (state_from pages.now masks.now [])) }
     ensures err { OnErr result (take (length reports.old.items) reports.new.items ≡ reports.old.items) }
@@ -219,8 +220,8 @@ pub fn report_event<L: Lifeguard>(
     at: EventPlace,
     kind: &Kind,
 ) -> Result<(), NoMemory>
-    requires hart { at.hart < 8 }
-    requires whole { length pages.now ≡ 4096 }
+    requires hart { at.hart < MAX_HARTS }
+    requires whole { length pages.now ≡ PAGE_COUNT }
     requires valid { HasValidFields kind.now }
     ensures ok { OnOk result (reports.new.items ≡ reports.old.items ++ reports_of (L.rules guard) at kind.now (state_from pages.now masks.now [])) }
     ensures err { OnErr result (reports.new.items ≡ reports.old.items) }
@@ -238,7 +239,7 @@ pub fn report_event<L: Lifeguard>(
 /// Makes cells for the pages that an event maps. What the pages stand for stays, also where no memory is left.
 #[inline]
 pub fn make_room_for(pages: &mut [Page], kind: &Kind) -> Result<(), NoMemory>
-    requires whole { length pages.old ≡ 4096 }
+    requires whole { length pages.old ≡ PAGE_COUNT }
     requires valid { HasValidFields kind.now }
     ensures room { OnOk result (HasRoomFor kind.now pages.new) }
     ensures same { bytes_in pages.new ≡ bytes_in pages.old }
@@ -272,8 +273,8 @@ pub fn change_masks<L: Lifeguard>(
     hart: u8,
     kind: &Kind,
 )
-    requires hart { hart < 8 }
-    requires whole { length pages.now ≡ 4096 }
+    requires hart { hart < MAX_HARTS }
+    requires whole { length pages.now ≡ PAGE_COUNT }
     requires valid { HasValidFields kind.now }
     ensures { masks_of masks.new ≡ masks_after (L.rules guard) hart kind.now (bytes_in pages.now) (masks_of masks.old) }
 {
@@ -316,8 +317,8 @@ pub fn change_bytes<L: Lifeguard>(
     hart: u8,
     kind: &Kind,
 )
-    requires hart { hart < 8 }
-    requires whole { length pages.old ≡ 4096 }
+    requires hart { hart < MAX_HARTS }
+    requires whole { length pages.old ≡ PAGE_COUNT }
     requires valid { HasValidFields kind.now }
     requires room { HasRoomFor kind.now pages.old }
     ensures { bytes_in pages.new ≡ bytes_after (L.rules guard) hart kind.now (bytes_in pages.old) (masks_of masks.now) }

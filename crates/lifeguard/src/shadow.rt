@@ -1,4 +1,5 @@
 ghost use Rattle.std.specs.Prelude.{◌≡◌, ◌<◌, ◌≤◌, ◌+◌, ◌*◌, ℕ, [], All, OnOk, OnErr, IfOk, vec_len, slice_index};
+ghost use Rattle.pl_base.specs.declared.layout.TheConstants.{PAGE_BYTES, PAGE_COUNT, MAX_HARTS, REGISTERS, MAX_RECORDS};
 
 use crate::guard::Lifeguard;
 use crate::masks::{Masks, clear_masks, mask_at};
@@ -7,11 +8,9 @@ use crate::pages::{byte_in, map_runs, unmapped_pages};
 use crate::report::{EventPlace, Report};
 use crate::rules::{change_bytes, change_masks, make_room_for, report_event};
 use pl_base::NoMemory;
+use pl_base::layout::PAGE_COUNT;
 use pl_event::{Event, PageRun};
 use std::alloc::Global;
-
-/// The pages of memory.
-const PAGES: usize = 4096;
 
 /// The shadow state of a run: the nibble of each mapped byte, the mask of each register, and the reports.
 #[derive(Drop)]
@@ -23,7 +22,7 @@ pub struct Shadow {
     /// How many events were applied, and of each hart.
     place: u32,
     counts: [u32; 8],
-    ghost whole: { vec_len pages ≡ 4096 },
+    ghost whole: { vec_len pages ≡ PAGE_COUNT },
     ghost counted: { (h : ℕ) → slice_index counts h ≤ place },
 }
 
@@ -35,10 +34,10 @@ impl Shadow {
 
     /// The state before the first event, with these pages mapped.
     pub fn new<L: Lifeguard>(alloc: Global, guard: L, runs: &[PageRun]) -> Result<Shadow, NoMemory>
-        requires inside { All (λ run. run.first + run.count ≤ 4096) runs.now }
+        requires inside { All (λ run. run.first + run.count ≤ PAGE_COUNT) runs.now }
         ensures { IfOk result (Begins (L.rules guard) runs.now) }
     {
-        let mut pages = unmapped_pages(alloc, PAGES)?;
+        let mut pages = unmapped_pages(alloc, PAGE_COUNT as usize)?;
         map_runs(guard, &mut pages, runs)?;
         Ok(Shadow {
             pages,
@@ -52,9 +51,9 @@ impl Shadow {
     /// Applies an event of a hart below 8. Without memory nothing that shows changes.
     #[inline]
     pub fn apply<L: Lifeguard>(&mut self, guard: L, event: &Event) -> Result<(), NoMemory>
-        requires hart { event.now.hart < 8 }
+        requires hart { event.now.hart < MAX_HARTS }
         requires valid { HasValidFields event.now.kind }
-        requires room { place_of self.old < 2000000 }
+        requires room { place_of self.old < MAX_RECORDS }
         ensures ok { OnOk result (IsStep (L.rules guard) event.now self.old self.new) }
         ensures err { OnErr result (IsUnchanged self.old self.new) }
     {
@@ -84,8 +83,8 @@ impl Shadow {
     /// The mask of a register below 34 of a hart below 8.
     #[inline]
     pub fn mask(&self, hart: u8, reg: u8) -> u8
-        requires hart { hart < 8 }
-        requires register { reg < 34 }
+        requires hart { hart < MAX_HARTS }
+        requires register { reg < REGISTERS }
         ensures { result ≡ (state_of self.now).masks hart reg }
     {
         mask_at(&self.masks, hart, reg)
@@ -95,8 +94,8 @@ impl Shadow {
     /// Where there are no cells no byte of the page is mapped.
     #[inline]
     pub fn page(&self, page: u16) -> &[u8]
-        requires { page < 4096 }
-        ensures bytes { (a : ℕ) → a < 4096 → bytes_of result.now a ≡ (state_of self.now).bytes (page * 4096 + a) }
+        requires { page < PAGE_COUNT }
+        ensures bytes { (a : ℕ) → a < PAGE_BYTES → bytes_of result.now a ≡ (state_of self.now).bytes (page * PAGE_BYTES + a) }
         ensures page { IsPage result.now }
     {
         self.pages[page as usize].cells()

@@ -1,5 +1,6 @@
 -- Which logs can be played.
 use Rattle.std.specs.Prelude.{ℕ, ◌+◌, ◌≤◌, length, All}
+use Rattle.pl_base.specs.declared.layout.TheConstants.{PAGE_COUNT, MAX_HARTS, MAX_RECORDS}
 use Rattle.pl_event.specs.Valid.{IsValidEvent}
 use Rattle.pl_event.specs.declared.log.Line.{Line}
 use Rattle.pl_event.specs.declared.log.Log.{Log}
@@ -16,7 +17,7 @@ CanPlayLine harts line = CanPlayRecord harts line.what
 
 -- at most eight harts, no page passes the last one, each event is valid, and there are at most 2,000,000 records
 pub record CanPlay (log : Log) : Type 0 where
-  pub few : log.harts ≤ 8
-  pub inside : All (λ run. run.first + run.count ≤ 4096) log.pages
+  pub few : log.harts ≤ MAX_HARTS
+  pub inside : All (λ run. run.first + run.count ≤ PAGE_COUNT) log.pages
   pub valid : All (CanPlayLine log.harts) log.lines
-  pub short : length log.lines ≤ 2000000
+  pub short : length log.lines ≤ MAX_RECORDS

@@ -1,5 +1,6 @@
 -- What the probes of a run have seen of it.
 use Rattle.std.specs.Prelude.{◌≡◌, ℕ, ◌<◌, List, [], ◌++◌, length, slice_index, slice_index_or}
+use Rattle.pl_base.specs.declared.layout.TheConstants.{MAX_HARTS}
 use Rattle.pl_event.specs.declared.event.Event.{Event}
 use Rattle.pl_event.specs.Numbers.{events_on}
 use Rattle.replay_probes.specs.declared.audience.Audience.{Audience}
@@ -19,7 +20,7 @@ module _ {B : Type 0} (meaning : B → Meaning) (has_seen : B → List Shown →
   -- probes with these meanings were shown these events, each up to its own stop
   pub record Watched (meanings : List Meaning) (events : List Event) (audience : Audience B) : Type 0 where
     pub place : audience.place ≡ length events
-    pub counts : (h : ℕ) → h < 8 → slice_index audience.counts h ≡ events_on h events
+    pub counts : (h : ℕ) → h < MAX_HARTS → slice_index audience.counts h ≡ events_on h events
     pub many : length audience.watches.items ≡ length meanings
     pub telling : (k : ℕ) (watch : Watch B) (other : Meaning) → k < length meanings
         → WillTell meaning has_seen (telling_behind (slice_index_or meanings k other) events) (slice_index_or audience.watches.items k watch)

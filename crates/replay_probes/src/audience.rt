@@ -1,4 +1,5 @@
 ghost use Rattle.std.specs.Prelude.{ℕ, ◌≤◌, slice_index};
+ghost use Rattle.pl_base.specs.declared.layout.TheConstants.{MAX_HARTS, MAX_RECORDS};
 
 use crate::probe::{Probe, Shown};
 use crate::watch::Watch;
@@ -39,8 +40,8 @@ impl<B: Probe> Audience<B> {
     /// places, but only some of them have seen the event: nothing more may be shown.
     #[inline]
     pub fn show(&mut self, alloc: Global, event: &Event) -> Result<(), NoMemory>
-        requires hart { event.now.hart < 8 }
-        requires room { place_of self.old < 2000000 }
+        requires hart { event.now.hart < MAX_HARTS }
+        requires room { place_of self.old < MAX_RECORDS }
         ensures watched { OnOk result ((meanings : List Meaning) (events : List Event) → Watched B.meaning B.has_seen meanings events self.old
             → Watched B.meaning B.has_seen meanings (events ++ event.now ∷ []) self.new) }
         ensures place { place_of self.new ≡ place_of self.old + 1 }

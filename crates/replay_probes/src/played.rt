@@ -1,5 +1,6 @@
 ghost use Rattle.std.specs.Prelude.{◌≡◌, ◌<◌, ◌≤◌, ◌+◌, ◌++◌, [], List, All, IfOk, OnOk, length, map};
 ghost use Rattle.std.specs.List.{cons_option};
+ghost use Rattle.pl_base.specs.declared.layout.TheConstants.{PAGE_COUNT, MAX_HARTS, MAX_RECORDS};
 ghost use Rattle.pl_event.specs.declared.event.Event.{Event};
 ghost use Rattle.pl_event.specs.declared.log.PageRun.{PageRun};
 ghost use Rattle.pl_event.specs.Numbers.{events_of, event_of};
@@ -60,10 +61,10 @@ fn play<L: Lifeguard, B: Probe>(
     lines: &Lines,
     probes: Vec<B>,
 ) -> Result<Replayer<L, B>, NoMemory>
-    requires few { harts ≤ 8 }
-    requires inside { All (λ run. run.first + run.count ≤ 4096) pages.now }
+    requires few { harts ≤ MAX_HARTS }
+    requires inside { All (λ run. run.first + run.count ≤ PAGE_COUNT) pages.now }
     requires valid { All (CanPlayLine harts) lines.now }
-    requires short { length lines.now ≤ 2000000 }
+    requires short { length lines.now ≤ MAX_RECORDS }
     requires fresh { All (λ probe. B.has_seen probe []) probes.items }
     ensures plays { IfOk result (λ replayer. Plays B.meaning B.has_seen (L.rules l) pages.now (map B.meaning probes.items) (events_of lines.now) replayer.monitor.shadow replayer.audience) }
     ensures guard { IfOk result (λ replayer. replayer.monitor.guard ≡ l) }
@@ -84,7 +85,7 @@ fn step_record<L: Lifeguard, B: Probe>(
     what: Record,
 ) -> Result<(), NoMemory>
     requires valid { CanPlayRecord replayer.old.monitor.harts what }
-    requires room { place_of replayer.old.monitor.shadow < 2000000 }
+    requires room { place_of replayer.old.monitor.shadow < MAX_RECORDS }
     ensures plays { OnOk result ((pages : List PageRun) (meanings : List Meaning) (events : List Event)
         → Plays B.meaning B.has_seen (L.rules replayer.old.monitor.guard) pages meanings events replayer.old.monitor.shadow replayer.old.audience
         → Plays B.meaning B.has_seen (L.rules replayer.old.monitor.guard) pages meanings (events ++ cons_option (event_of what) []) replayer.new.monitor.shadow replayer.new.audience) }

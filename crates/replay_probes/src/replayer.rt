@@ -1,4 +1,5 @@
 ghost use Rattle.std.specs.Prelude.{◌≡◌};
+ghost use Rattle.pl_base.specs.declared.layout.TheConstants.{PAGE_COUNT, MAX_HARTS, MAX_RECORDS};
 ghost use Rattle.lifeguard.specs.Shadow.{place_of};
 ghost use Rattle.replay_probes.specs.Watched.{place_of as place_of_audience};
 
@@ -45,8 +46,8 @@ impl<L: Lifeguard, B: Probe> Replayer<L, B> {
         pages: &[PageRun],
         probes: Vec<B>,
     ) -> Result<Replayer<L, B>, NoMemory>
-        requires few { harts ≤ 8 }
-        requires inside { All (λ run. run.first + run.count ≤ 4096) pages.now }
+        requires few { harts ≤ MAX_HARTS }
+        requires inside { All (λ run. run.first + run.count ≤ PAGE_COUNT) pages.now }
         requires fresh { All (λ probe. B.has_seen probe []) probes.items }
         ensures plays { IfOk result (λ replayer. Plays B.meaning B.has_seen (L.rules l) pages.now (map B.meaning probes.items) [] replayer.monitor.shadow replayer.audience) }
         ensures ready { IfOk result (λ replayer. replayer.lost ≡ false) }
@@ -67,7 +68,7 @@ impl<L: Lifeguard, B: Probe> Replayer<L, B> {
     #[inline]
     pub fn step(&mut self, alloc: Global, event: &Event) -> Result<(), NoMemory>
         requires valid { IsValidEvent event.now self.old.monitor.harts }
-        requires room { place_of self.old.monitor.shadow < 2000000 }
+        requires room { place_of self.old.monitor.shadow < MAX_RECORDS }
         ensures plays { OnOk result ((pages : List PageRun) (meanings : List Meaning) (events : List Event)
             → Plays B.meaning B.has_seen (L.rules self.old.monitor.guard) pages meanings events self.old.monitor.shadow self.old.audience
             → Plays B.meaning B.has_seen (L.rules self.old.monitor.guard) pages meanings (events ++ event.now ∷ []) self.new.monitor.shadow self.new.audience) }

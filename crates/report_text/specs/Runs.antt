@@ -1,5 +1,6 @@
 -- The longest runs of bytes with one nibble that is not 0, by address.
 use Rattle.std.specs.Prelude.{◌≡◌, ◌≢◌, ℕ, zero, suc, ◌+◌, ◌-◌, ◌^◌, ◌<◌, ◌≤◌, ◌&&◌, ◌==◌, List, [], ◌∷◌, All, AllPairs, Any, if◌then◌else◌}
+use Rattle.pl_base.specs.declared.layout.TheConstants.{MEMORY_BYTES}
 use Rattle.lifeguard.specs.State.{Bytes, nibble_at}
 use Rattle.report_text.specs.declared.runs.ByteRun.{ByteRun}
 
@@ -19,7 +20,7 @@ runs_from bytes a (suc count) = onto_run a (nibble_at bytes a) (runs_from bytes 
 
 -- the runs of all memory, 2^24 bytes
 abbrev pub runs_of : Bytes → List ByteRun
-runs_of bytes = runs_from bytes 0 (2 ^ 24)
+runs_of bytes = runs_from bytes 0 MEMORY_BYTES
 
 -- a run of bytes with one nibble that is not 0, which no byte from `low` up to before `high` makes longer
 pub record IsLongestRun (bytes : Bytes) (low high : ℕ) (run : ByteRun) : Type 0 where

@@ -1,15 +1,14 @@
 ghost use Rattle.std.specs.Prelude.{◌≡◌, ℕ, true, ◌<◌, ◌≤◌, ◌+◌, ◌^◌, ◌++◌, length, slice_index, IfOk, OnOk};
+ghost use Rattle.pl_base.specs.declared.layout.TheConstants.{MEMORY_BYTES, PAGE_BYTES};
 ghost use Rattle.lifeguard.specs.State.{Bytes, nibble_at};
 ghost use Rattle.lifeguard.specs.Pages.{IsPage};
 ghost use Rattle.lifeguard.specs.Shadow.{state_of, bytes_of};
 ghost use Rattle.report_text.specs.Runs.{runs_from, runs_of, AreLongestRuns, ended_run};
 
-use lifeguard::{Lifeguard, PAGE_BYTES, PlainMonitor};
+use lifeguard::{Lifeguard, PlainMonitor};
 use pl_base::NoMemory;
+use pl_base::layout::{MEMORY_BYTES, PAGE_BYTES};
 use std::alloc::Global;
-
-/// How many bytes of memory there are.
-const MEMORY_BYTES: u32 = 16_777_216;
 
 /// Bytes with one nibble that is not 0.
 #[derive(Clone, Copy, Debug, PartialEq, Eq)]
@@ -54,7 +53,7 @@ struct Pages<'a, L: Lifeguard> {
 impl<'a, L: Lifeguard> Nibbles for Pages<'a, L> {
     ghost bytes = { λ nibbles. (state_of nibbles.monitor.now.shadow).bytes };
 
-    ghost count = { λ nibbles. 2 ^ 24 };
+    ghost count = { λ nibbles. MEMORY_BYTES };
 
     #[inline]
     fn nibble(&self, addr: u32) -> u8 {
@@ -86,10 +85,10 @@ fn cell_nibble(cells: &[u8], at: usize) -> u8
 /// without cells, a block, or one.
 #[inline]
 fn cells_alike(cells: &[u8], place: u32) -> u32
-    requires inside { place < 4096 }
+    requires inside { place < PAGE_BYTES }
     requires page { IsPage cells.now }
     ensures some { 0 < result }
-    ensures inside { place + result ≤ 4096 }
+    ensures inside { place + result ≤ PAGE_BYTES }
     ensures alike { (a : ℕ) → place ≤ a → a < place + result → nibble_at (bytes_of cells.now) a ≡ nibble_at (bytes_of cells.now) place }
 {
     if cells.is_empty() {
@@ -165,7 +164,7 @@ pub fn runs_of_plain<L: Lifeguard>(
     m: &PlainMonitor<L>,
 ) -> Result<Vec<ByteRun>, NoMemory>
     ensures runs { IfOk result (λ runs. runs.items ≡ runs_of (state_of m.now.shadow).bytes) }
-    ensures longest { IfOk result (λ runs. AreLongestRuns (state_of m.now.shadow).bytes 0 (2 ^ 24) runs.items) }
+    ensures longest { IfOk result (λ runs. AreLongestRuns (state_of m.now.shadow).bytes 0 MEMORY_BYTES runs.items) }
 {
     runs_below(alloc, Pages { monitor: m }, MEMORY_BYTES)
 }

@@ -2,6 +2,7 @@
 use Rattle.std.specs.Prelude.{◌≡◌, ℕ, Bool, false, not, ◌==◌, List, [], ◌∷◌, ◌++◌, length, map, Option, slice_index_or}
 use Rattle.std.specs.List.{flat_map}
 use Rattle.std.specs.Option.{option_map_or}
+use Rattle.pl_base.specs.declared.layout.TheConstants.{MAX_JOB_BYTES, MAX_LOG_BYTES}
 use Rattle.pl_event.specs.declared.event.Event.{Event}
 use Rattle.pl_event.specs.declared.log.Log.{Log}
 use Rattle.pl_event.specs.Numbers.{events_of}
@@ -86,10 +87,10 @@ IsAnswer meanings names command.List bytes text reported = IsListing bytes text 
 
 -- how many bytes of input a command takes
 abbrev pub limit_of : Command → ℕ
-limit_of (command.Replay guard) = 67108864
-limit_of (command.Probe guard) = 67108864
-limit_of command.Run = 1048576
-limit_of command.List = 1048576
+limit_of (command.Replay guard) = MAX_LOG_BYTES
+limit_of (command.Probe guard) = MAX_LOG_BYTES
+limit_of command.Run = MAX_JOB_BYTES
+limit_of command.List = MAX_JOB_BYTES
 
 -- a command has an answer to these bytes
 abbrev pub IsInput : Command → List ℕ → Type 0

@@ -15,15 +15,10 @@ use crate::run::run;
 use guest_asm::JobRefused;
 use lifeguard::Name;
 use log_text::{LogEnd, LogRefused};
+use pl_base::layout::{MAX_JOB_BYTES, MAX_LOG_BYTES};
 use pl_base::{ReadEnd, Source, read_all};
 use replay_probes::Probe;
 use std::alloc::Global;
-
-/// How many bytes of a log are read.
-const LOG_LIMIT: u32 = 67_108_864;
-
-/// How many bytes of a job are read.
-const JOB_LIMIT: u32 = 1_048_576;
 
 /// What a command writes, and whether its lifeguard has a report.
 #[derive(Drop)]
@@ -55,11 +50,11 @@ pub fn answer_to<S: Source>(
 }
 
 fn replay_answer<S: Source>(alloc: Global, guard: Name, source: &mut S) -> Result<Answer, Refused>
-    ensures ok { IfOk result (λ answer. ReadWhole (S.left source.old) (S.left source.new) 67108864 (λ bytes. IsReplay guard bytes answer.text.items answer.reported)) }
+    ensures ok { IfOk result (λ answer. ReadWhole (S.left source.old) (S.left source.new) MAX_LOG_BYTES (λ bytes. IsReplay guard bytes answer.text.items answer.reported)) }
     ensures refused { IfErr result (IsRefused (Command.Replay guard) (S.left source.old) (S.left source.new)) }
     ensures fault { IsErrOf result (Refused.Read ReadEnd.Fault) → Rose (S.faults source.old) (S.faults source.new) }
 {
-    match replay(alloc, guard, source, LOG_LIMIT) {
+    match replay(alloc, guard, source, MAX_LOG_BYTES) {
         Ok(answer) => Ok(answer),
         Err(LogEnd::Fault(fault)) => Err(Refused::Log(fault)),
         Err(LogEnd::Read(end)) => Err(Refused::Read(end)),
@@ -74,12 +69,12 @@ fn probe_answer<S: Source>(
     source: &mut S,
 ) -> Result<Answer, Refused>
     requires fresh { All (λ p. has_seen p []) probes.items }
-    ensures ok { IfOk result (λ answer. ReadWhole (S.left source.old) (S.left source.new) 67108864 (λ bytes.
+    ensures ok { IfOk result (λ answer. ReadWhole (S.left source.old) (S.left source.new) MAX_LOG_BYTES (λ bytes.
         IsProbed (map (λ p. meaning p) probes.items) (names_of_words (map string_bytes words.now)) guard bytes answer.text.items answer.reported)) }
     ensures refused { IfErr result (IsRefused (Command.Probe guard) (S.left source.old) (S.left source.new)) }
     ensures fault { IsErrOf result (Refused.Read ReadEnd.Fault) → Rose (S.faults source.old) (S.faults source.new) }
 {
-    let bytes = match read_all(alloc, source, LOG_LIMIT) {
+    let bytes = match read_all(alloc, source, MAX_LOG_BYTES) {
         Ok(bytes) => bytes,
         Err(end) => return Err(Refused::Read(end)),
     };
@@ -91,11 +86,11 @@ fn probe_answer<S: Source>(
 }
 
 fn run_answer<S: Source>(alloc: Global, source: &mut S) -> Result<Answer, Refused>
-    ensures ok { IfOk result (λ answer. ReadWhole (S.left source.old) (S.left source.new) 1048576 (λ bytes. IsRunTold bytes answer.text.items × (answer.reported ≡ false))) }
+    ensures ok { IfOk result (λ answer. ReadWhole (S.left source.old) (S.left source.new) MAX_JOB_BYTES (λ bytes. IsRunTold bytes answer.text.items × (answer.reported ≡ false))) }
     ensures refused { IfErr result (IsRefused Command.Run (S.left source.old) (S.left source.new)) }
     ensures fault { IsErrOf result (Refused.Read ReadEnd.Fault) → Rose (S.faults source.old) (S.faults source.new) }
 {
-    let bytes = match read_all(alloc, source, JOB_LIMIT) {
+    let bytes = match read_all(alloc, source, MAX_JOB_BYTES) {
         Ok(bytes) => bytes,
         Err(end) => return Err(Refused::Read(end)),
     };
@@ -110,11 +105,11 @@ fn run_answer<S: Source>(alloc: Global, source: &mut S) -> Result<Answer, Refuse
 }
 
 fn list_answer<S: Source>(alloc: Global, source: &mut S) -> Result<Answer, Refused>
-    ensures ok { IfOk result (λ answer. ReadWhole (S.left source.old) (S.left source.new) 1048576 (λ bytes. IsListing bytes answer.text.items × (answer.reported ≡ false))) }
+    ensures ok { IfOk result (λ answer. ReadWhole (S.left source.old) (S.left source.new) MAX_JOB_BYTES (λ bytes. IsListing bytes answer.text.items × (answer.reported ≡ false))) }
     ensures refused { IfErr result (IsRefused Command.List (S.left source.old) (S.left source.new)) }
     ensures fault { IsErrOf result (Refused.Read ReadEnd.Fault) → Rose (S.faults source.old) (S.faults source.new) }
 {
-    let bytes = match read_all(alloc, source, JOB_LIMIT) {
+    let bytes = match read_all(alloc, source, MAX_JOB_BYTES) {
         Ok(bytes) => bytes,
         Err(end) => return Err(Refused::Read(end)),
     };

@@ -1,6 +1,7 @@
 ghost use Rattle.std.specs.Prelude.{◌≡◌, ◌<◌, ◌≤◌, ◌+◌, ◌^◌, ◌++◌, [], List, ℕ, Ok, true, false, All, IfOk, IfErr, OnOk, IsErrOf};
 ghost use Rattle.std.specs.declared.option.Option.{Option};
 ghost use Rattle.std.specs.List.{cons_option};
+ghost use Rattle.pl_base.specs.declared.layout.TheConstants.{PAGE_COUNT, MAX_RECORDS};
 ghost use Rattle.pl_base.specs.Causes.{Rose};
 ghost use Rattle.pl_event.specs.declared.event.Event.{Event};
 ghost use Rattle.pl_event.specs.declared.log.PageRun.{PageRun};
@@ -67,7 +68,7 @@ fn replay_opened<L: Lifeguard, S: Source>(
     source: &mut S,
 ) -> Result<Answer, LogEnd>
     requires few { opening.harts ≤ 8 }
-    requires pages { All (λ run. run.first + run.count ≤ 4096) opening.pages }
+    requires pages { All (λ run. run.first + run.count ≤ PAGE_COUNT) opening.pages }
     requires read { (limit : ℕ) × (began : Option (List ℕ)) × IsStreamed limit began (S.left source.old) opening.stream (begun_log opening) }
     ensures ok { (limit : ℕ) (began : Option (List ℕ)) → IsStreamed limit began (S.left source.old) opening.stream (begun_log opening)
         → IfOk result (λ answer. WasRead limit began (S.left source.new) (λ bytes. IsReplayUnder (L.rules guard) bytes answer.text.items answer.reported)) }
@@ -146,7 +147,7 @@ fn play_row<L: Lifeguard, S: Source>(
 #[inline(always)]
 fn apply_record<L: Lifeguard>(monitor: &mut PlainMonitor<L>, what: Record) -> Result<(), NoMemory>
     requires valid { IsValidRecord monitor.old.harts what }
-    requires room { place_of monitor.old.shadow < 2000000 }
+    requires room { place_of monitor.old.shadow < MAX_RECORDS }
     ensures stands { OnOk result ((pages : List PageRun) (events : List Event) → Represents (L.rules monitor.old.guard) pages events monitor.old.shadow
         → Represents (L.rules monitor.old.guard) pages (events ++ cons_option (event_of what) []) monitor.new.shadow) }
     ensures guard { monitor.new.guard ≡ monitor.old.guard }

@@ -7,9 +7,6 @@
 
 ghost use Rattle.addrcheck.specs.AddrRules.{addr_rules};
 
-#[cfg(test)]
-mod tests;
-
 use lifeguard::{CheckedRegs, Lifeguard, Name, RangeKind};
 use pl_event::{Kind, PageKind};
 

@@ -10,20 +10,14 @@
 //! turns are looked up.
 #![tactic(auto)]
 
-#[cfg(test)]
-mod end_tests;
 mod group;
 mod hart;
 mod job;
 mod kinds;
 mod laws;
 mod machine;
-#[cfg(test)]
-mod run_tests;
 mod start;
 mod step;
-#[cfg(test)]
-mod tests;
 mod text;
 mod turn;
 

@@ -12,17 +12,11 @@ mod bytes;
 mod cause;
 mod code;
 mod directive;
-#[cfg(test)]
-mod fault_tests;
-#[cfg(test)]
-mod generated_tests;
 mod generator;
 mod laws;
 mod layout;
 mod line;
 mod list;
-#[cfg(test)]
-mod listing_tests;
 mod mnemonic;
 mod number;
 mod operand;
@@ -30,8 +24,6 @@ mod read;
 mod rules;
 mod scan;
 mod statement;
-#[cfg(test)]
-mod tests;
 
 pub use cause::{JobCause, JobFault, JobRefused};
 pub use generator::generate;

@@ -9,9 +9,5 @@
 
 mod heap;
 mod holes;
-#[cfg(test)]
-mod plain;
-#[cfg(test)]
-mod tests;
 
 pub use heap::Heap;

@@ -7,12 +7,8 @@
 #![tactic(auto)]
 
 mod call;
-#[cfg(test)]
-mod failure_tests;
 mod kernel;
 mod pages;
-#[cfg(test)]
-mod tests;
 
 pub use call::{CallArgs, KernelStep};
 pub use kernel::Kernel;

@@ -10,8 +10,6 @@ mod directory;
 mod fault;
 mod memory;
 mod page;
-#[cfg(test)]
-mod tests;
 
 pub use fault::{MapFault, MemFault, NotMapped};
 pub use memory::PagedMem;

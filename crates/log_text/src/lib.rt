@@ -16,8 +16,6 @@ mod reader;
 mod stream;
 mod take;
 mod tally;
-#[cfg(test)]
-mod tests;
 mod write;
 
 pub use cause::{LogCause, LogFault, LogRefused};

@@ -8,9 +8,6 @@
 ghost use Rattle.std.specs.Prelude.{◌≡◌};
 ghost use Rattle.memcheck.specs.MemRules.{is_addressable as is_addressable_nibble, is_undefined as is_undefined_nibble, with_defined as with_defined_bit, mem_rules};
 
-#[cfg(test)]
-mod tests;
-
 use lifeguard::{CheckedRegs, Lifeguard, Name, RangeKind, call_registers};
 use pl_event::{Kind, PageKind};
 

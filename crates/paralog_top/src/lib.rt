@@ -15,12 +15,8 @@ mod refused;
 mod replay;
 mod result;
 mod run;
-#[cfg(test)]
-mod run_tests;
 mod run_text;
 mod status;
-#[cfg(test)]
-mod tests;
 mod top;
 
 pub use command::Command;

@@ -7,8 +7,6 @@
 mod bytes;
 mod digit;
 mod number;
-#[cfg(test)]
-mod tests;
 
 pub use bytes::{after_byte, after_word, first_byte};
 pub use digit::{digit_at, short_decimal_at};

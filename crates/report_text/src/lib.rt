@@ -8,8 +8,6 @@
 
 mod lines;
 mod runs;
-#[cfg(test)]
-mod tests;
 
 pub use lines::text;
 pub use runs::{ByteRun, runs_of_plain};

@@ -10,8 +10,6 @@ mod arithmetic;
 mod effect;
 mod hart;
 mod step;
-#[cfg(test)]
-mod tests;
 
 pub use effect::{Effect, Wanted};
 pub use hart::HartState;

@@ -10,8 +10,6 @@ mod encoding;
 mod instruction;
 mod listing;
 mod range;
-#[cfg(test)]
-mod tests;
 
 pub use decoding::decode;
 pub use encoding::encode;

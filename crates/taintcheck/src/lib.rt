@@ -6,9 +6,6 @@
 
 ghost use Rattle.taintcheck.specs.TaintRules.{taint_rules};
 
-#[cfg(test)]
-mod tests;
-
 use lifeguard::{CheckedRegs, Lifeguard, Name, RangeKind, call_registers};
 use pl_event::{Kind, PageKind};
 

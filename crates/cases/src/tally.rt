@@ -1,0 +1,30 @@
+//! The number of rows, and of those that differ.
+
+/// How many rows were played, and how many of them came to something else than they say.
+#[derive(Clone, Copy)]
+pub struct Tally {
+    pub rows: u32,
+    pub differ: u32,
+}
+
+impl Tally {
+    ghost use Rattle.std.specs.Prelude.{◌≡◌, ◌+◌, ◌<◌, ◌^◌};
+
+    /// No row yet.
+    pub fn new() -> Tally
+        ensures { result ≡ record { rows = 0; differ = 0 } }
+    {
+        Tally { rows: 0, differ: 0 }
+    }
+
+    /// One more row, which came to what it says or not.
+    pub fn count(&mut self, as_said: bool)
+        ensures rows { self.new.rows ≡ min (self.old.rows + 1) (2 ^ 32 - 1) }
+        ensures differ { self.new.differ ≡ (if as_said then self.old.differ else min (self.old.differ + 1) (2 ^ 32 - 1)) }
+    {
+        self.rows = self.rows.saturating_add(1);
+        if !as_said {
+            self.differ = self.differ.saturating_add(1);
+        }
+    }
+}

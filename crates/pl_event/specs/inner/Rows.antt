@@ -1,11 +1,9 @@
 -- A line as it is kept: its record, and where its arcs stand.
-use Rattle.std.specs.Prelude.{ℕ, ◌≤◌, List, ◌∷◌, Option, None, replicate, slice_index_or, map, length, All}
+use Rattle.std.specs.Prelude.{ℕ, ◌≤◌, List, ◌∷◌, Option, slice_index_or, map, length, All}
 use Rattle.pl_event.specs.declared.log.Line.{Line}
 use Rattle.pl_event.specs.declared.lines.Row.{Row}
-use Rattle.pl_event.specs.Packing.{record_from}
-
-abbrev pub no_arcs : List (Option ℕ)
-no_arcs = replicate 8 None
+use Rattle.pl_event.specs.Edges.{no_arcs}
+use Rattle.pl_event.specs.inner.Packing.{record_from}
 
 -- slot 0 stands for no arcs, and each later one for the arcs before it
 abbrev pub arcs_at : List (List (Option ℕ)) → ℕ → List (Option ℕ)

@@ -7,7 +7,7 @@ use lib.ListN.{get_elem?}
 use Rattle.order_core.specs.declared.course.Course.{Course}
 use Rattle.order_core.specs.declared.course.Operation.{Operation}
 use Rattle.order_core.specs.Course.{rank, length_of, writes_of}
-use Rattle.order_core.specs.Core.{Core, MayWrite, Stands, put, after_write, after_advertise, after_see}
+use Rattle.order_core.specs.Core.{Core, MayWrite, IsConsistent, put, after_write, after_advertise, after_see}
 use Rattle.order_core.specs.Runs.{total, total_but, most_moves}
 use Rattle.order_core.proofs.Ranks.{put_here, put_else, is_write, rank_lt}
 
@@ -47,7 +47,7 @@ module _ (c : Course) where
   abbrev pub height : Core → ℕ
   height k = total c.log.harts k.written + total c.log.harts (λ h. total_but h c.log.harts (k.seen h)) + total c.log.harts k.progress
 
-  pub below : (k : Core) → Stands c k → ((h : ℕ) → k.written h ≤ writes_of c h) → height k ≤ most_moves c
+  pub below : (k : Core) → IsConsistent c k → ((h : ℕ) → k.written h ≤ writes_of c h) → height k ≤ most_moves c
   below k st all =
       let told : (h : ℕ) → k.progress h ≤ length_of c h = λ h. (st.1.passed h).0 in
       let seen : (h u : ℕ) → k.seen h u ≤ length_of c u = λ h u. (let s : k.seen h u ≤ k.progress u = st.1.seen h u in let t : k.progress u ≤ length_of c u = told u in omega arith) in

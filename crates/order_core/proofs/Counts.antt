@@ -75,7 +75,7 @@ module _ (c : Course) (names : InOrder c) (short : (p : ℕ) (a : Operation) →
   rank_by_name h n i p a at name = rank_counts h (is_before h n i) c.operations p (λ q b x. (early q b x, late q b x))
     where
       other : (b : Operation) → b.hart ≢ h → is_write_of h b ≡ false
-      other b n = and_no b.write (eqb b.hart h) (grind (arith, nat_tests))
+      other b n = and_no b.what.write (eqb b.hart h) (grind (arith, nat_tests))
         where
           and_no : (b t : Bool) → t ≡ false → (b && t) ≡ false
           and_no true t e = e
@@ -130,15 +130,15 @@ module _ (c : Course) (names : InOrder c) (short : (p : ℕ) (a : Operation) →
       and_no false t e = refl
 
       stranger : (h : ℕ) (b : Operation) → b.hart ≢ h → is_write_of h b ≡ false
-      stranger h b n = and_no b.write (eqb b.hart h) (grind (arith, nat_tests))
+      stranger h b n = and_no b.what.write (eqb b.hart h) (grind (arith, nat_tests))
 
-  pub next_write : (h n i p : ℕ) (a : Operation) → At c p a → IsName h n i a → a.write ≡ true → count_if (is_before h n (i + 1)) c.operations ≡ count_if (is_before h n i) c.operations + 1
+  pub next_write : (h n i p : ℕ) (a : Operation) → At c p a → IsName h n i a → a.what.write ≡ true → count_if (is_before h n (i + 1)) c.operations ≡ count_if (is_before h n i) c.operations + 1
   next_write h n i p a x name w = count_more (is_before h n i) (is_before h n (i + 1)) c.operations p a x
       (before_false h n i a (λ o. let s : a.number ≡ n = name.1 in let t : a.op ≡ i = name.2 in ⊎_elim (λ (z : a.number < n). omega arith) (λ (z : (a.number ≡ n) × (a.op < i)). let u : a.op < i = z.1 in omega arith) o))
       (before_true h n (i + 1) a (inr (name.1, let t : a.op ≡ i = name.2 in omega arith)) ∙ is_write h a w name.0)
       (λ q b y ne. agree_else h n i p q a b x name y ne)
 
-  pub next_read : (h n i p : ℕ) (a : Operation) → At c p a → IsName h n i a → a.write ≡ false → count_if (is_before h n (i + 1)) c.operations ≡ count_if (is_before h n i) c.operations
+  pub next_read : (h n i p : ℕ) (a : Operation) → At c p a → IsName h n i a → a.what.write ≡ false → count_if (is_before h n (i + 1)) c.operations ≡ count_if (is_before h n i) c.operations
   next_read h n i p a x name r = count_same (is_before h n (i + 1)) (is_before h n i) c.operations (λ q b y. dite (ℕ_discrete q p)
       (λ e. let same : b ≡ a = some-injective b a (sym (subst (λ (z : ℕ). At c z b) e y) ∙ x) in
       let f : is_write_of h b ≡ false = ap (is_write_of h) same ∙ ap (λ (z : Bool). z && eqb a.hart h) r in
@@ -163,7 +163,7 @@ module _ (c : Course) (names : InOrder c) (short : (p : ℕ) (a : Operation) →
       and_no false t e = refl
 
       stranger : (h : ℕ) (b : Operation) → b.hart ≢ h → is_write_of h b ≡ false
-      stranger h b n = and_no b.write (eqb b.hart h) (grind (arith, nat_tests))
+      stranger h b n = and_no b.what.write (eqb b.hart h) (grind (arith, nat_tests))
 
   pub count_top : (f : Operation → Bool) (xs : List Operation) → count_if f xs ≤ length xs
   count_top f [] = omega arith

@@ -3,13 +3,12 @@ use Rattle.std.proofs.Common.{◌≡◌, ℕ, zero, suc, ◌+◌, ◌<◌, ◌�
 use mathlib.Core.Option.{some, some-injective, some-ne-none}
 use lib.ListN.{get_elem?}
 use Rattle.pl_event.specs.declared.log.Line.{Line}
-use Rattle.pl_event.specs.declared.log.Log.{Log}
 use Rattle.pl_event.specs.Numbers.{hart_of}
 use Rattle.pl_event.specs.Records.{records_before}
 use Rattle.pl_event.proofs.Places.{before_own, before_up}
 use Rattle.order_core.specs.declared.course.Op.{Op}
 use Rattle.order_core.specs.declared.course.Operation.{Operation}
-use Rattle.order_core.specs.Course.{operation_of, tagged, operations_from, course_of}
+use Rattle.order_core.specs.Course.{Planned, operation_of, tagged, operations_from, course_of}
 use Rattle.order_core.specs.Lawful.{IsName, InOrder}
 
 pub at_append : {A : Type 0} (xs ys : List A) (p : ℕ) (a : A) → get_elem? (xs ++ ys) p ≡ some a → (get_elem? xs p ≡ some a) ⊎ ((q : ℕ) × (p ≡ length xs + q) × (get_elem? ys q ≡ some a))
@@ -27,7 +26,7 @@ at_right [] ys p q a s e = subst (λ (z : ℕ). get_elem? ys z ≡ some a) (omeg
 at_right (x ∷ xs) ys zero q a s e = absurd (omega arith)
 at_right (x ∷ xs) ys (suc p) q a s e = at_right xs ys p q a (omega arith) e
 
-inside : {A : Type 0} (xs : List A) (p : ℕ) (a : A) → get_elem? xs p ≡ some a → p < length xs
+pub inside : {A : Type 0} (xs : List A) (p : ℕ) (a : A) → get_elem? xs p ≡ some a → p < length xs
 inside [] p a e = absurd (some-ne-none a (sym e))
 inside (x ∷ xs) zero a e = omega arith
 inside (x ∷ xs) (suc p) a e = let l : p < length xs = inside xs p a e in omega arith
@@ -114,8 +113,8 @@ module _ (ops : ℕ → ℕ → List Op) (g : List Line) where
       (at_append (head i x) (tail i rest) p a e)
 
 -- the operations of a log, laid out record by record
-pub course_in_order : (log : Log) (opening : List ℕ) (ops : ℕ → ℕ → List Op) → InOrder (course_of log opening ops)
-course_in_order log opening ops = record {
-  order = ordered ops log.lines 0 log.lines (λ k j line e s. subst (λ (z : ℕ). get_elem? log.lines z ≡ some line) (omega arith) e);
-  dense = λ p a i e l. dense ops log.lines 0 log.lines p a i e l;
+pub course_in_order : (plan : Planned) → InOrder (course_of plan)
+course_in_order plan = record {
+  order = ordered plan.operations plan.log.lines 0 plan.log.lines (λ k j line e s. subst (λ (z : ℕ). get_elem? plan.log.lines z ≡ some line) (omega arith) e);
+  dense = λ p a i e l. dense plan.operations plan.log.lines 0 plan.log.lines p a i e l;
 }

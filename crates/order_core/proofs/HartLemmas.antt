@@ -3,18 +3,17 @@ use Rattle.std.proofs.Common.{◌≡◌, ◌≢◌, ℕ, ◌+◌, ◌<◌, ◌�
 use mathlib.Core.Logic.{dite}
 use native.Mathlib.Decide.{ℕ_discrete, dec_le}
 use mathlib.Core.Option.{some-injective}
-use Rattle.pl_event.specs.declared.log.Log.{Log}
 use Rattle.order_core.specs.declared.course.Course.{Course}
 use Rattle.order_core.specs.declared.course.Op.{Op}
 use Rattle.order_core.specs.declared.course.Operation.{Operation}
 use Rattle.order_core.specs.declared.place.Place.{Place}
 use Rattle.order_core.specs.declared.state.HartState.{HartState}
-use Rattle.order_core.specs.Course.{At, course_of, length_of, operation_of, rank}
+use Rattle.order_core.specs.Course.{Planned, At, course_of, length_of, operation_of, rank}
 use Rattle.order_core.specs.Core.{IsMet, IsPassed, IsCursor, MayWrite, MayRead}
 use Rattle.order_core.specs.Counts.{writes_before}
 use Rattle.order_core.specs.Lanes.{covers, Meets}
 use Rattle.order_core.specs.Lawful.{IsName}
-use Rattle.order_core.specs.Places.{place, place_of, loose, ClashesBetween}
+use Rattle.order_core.specs.Places.{place, operation_place, ClashesBetween}
 use Rattle.order_core.specs.States.{IsKept}
 use Rattle.order_core.proofs.Counts.{rank_by_name, next_write}
 use Rattle.order_core.proofs.Known.{Known}
@@ -23,15 +22,15 @@ use Rattle.order_core.proofs.Ranks.{is_write, rank_lt}
 use Rattle.order_core.proofs.PlaceLemmas.{one_name, in_place, by_place, counted}
 use Rattle.order_core.proofs.Walks.{names, short}
 
-module _ (log : Log) (opening : List ℕ) (ops : ℕ → ℕ → List Op) (k : Known (course_of log opening ops)) where
+module _ (plan : Planned) (k : Known (course_of plan)) where
   abbrev c : Course
-  c = course_of log opening ops
+  c = course_of plan
 
   -- an operation of a name is the one that is asked for
-  pub only_one : (h n i p : ℕ) (a : Operation) (o : Op) → slice_get (ops h n) i ≡ Some o → At c p a → IsName h n i a → a ≡ operation_of h n i o
+  pub only_one : (h n i p : ℕ) (a : Operation) (o : Op) → slice_get (plan.operations h n) i ≡ Some o → At c p a → IsName h n i a → a ≡ operation_of h n i o
   only_one h n i p a o e at name =
-      let t = op_of log opening ops p a at in
-      let there : slice_get (ops h n) i ≡ Some t.0 = subst (λ (z : ℕ × ℕ × ℕ). slice_get (ops z.0 z.1) z.2 ≡ Some t.0) (λ d. (name.0 d, name.1 d, name.2 d)) t.1 in
+      let t = op_of plan p a at in
+      let there : slice_get (plan.operations h n) i ≡ Some t.0 = subst (λ (z : ℕ × ℕ × ℕ). slice_get (plan.operations z.0 z.1) z.2 ≡ Some t.0) (λ d. (name.0 d, name.1 d, name.2 d)) t.1 in
       let same : t.0 ≡ o = (let u : Some o ≡ Some t.0 = sym e ∙ there in cc) in
       t.2 ∙ (λ d. operation_of (name.0 d) (name.1 d) (name.2 d) (same d))
 
@@ -44,12 +43,12 @@ module _ (log : Log) (opening : List ℕ) (ops : ℕ → ℕ → List Op) (k : K
 
     next_small : s.next.op ≤ 4294967295
     next_small = dite (dec_le s.next.number (length_of c h))
-        (λ low. let t = kept.there low in let e : t.1.op ≡ s.next.op = t.3.2 in let l : t.1.op < 4294967295 = short log opening ops k t.0 t.1 t.2 in omega arith)
+        (λ low. let t = kept.there low in let e : t.1.op ≡ s.next.op = t.3.2 in let l : t.1.op < 4294967295 = short plan k t.0 t.1 t.2 in omega arith)
         (λ n. let l : length_of c h < s.next.number = lt_of_not-le n in let w : place s.next.number s.next.op ≤ place (length_of c h + 1) 0 = kept.within in omega arith)
 
     -- the performed writes are those before the next
-    done_before : (q : ℕ) (b : Operation) → At c q b → b.hart ≡ h → b.write ≡ true → (rank h c.operations q < s.written → place_of b < place s.next.number s.next.op) × (place_of b < place s.next.number s.next.op → rank h c.operations q < s.written)
-    done_before q b at own w = counted c (names log opening ops k) (short log opening ops k) h s.next.number s.next.op s.written q b next_small kept.count at own w
+    done_before : (q : ℕ) (b : Operation) → At c q b → b.hart ≡ h → b.what.write ≡ true → (rank h c.operations q < s.written → operation_place b < place s.next.number s.next.op) × (operation_place b < place s.next.number s.next.op → rank h c.operations q < s.written)
+    done_before q b at own w = counted c (names plan k) (short plan k) h s.next.number s.next.op s.written q b next_small kept.count at own w
 
     pub passed_up : (upto met : ℕ) → upto < s.next.number → upto ≤ met → IsMet c seen h met → IsPassed c s.written seen h upto
     passed_up upto met below le is =
@@ -57,7 +56,7 @@ module _ (log : Log) (opening : List ℕ) (ops : ℕ → ℕ → List Op) (k : K
         let top : s.next.number ≤ length_of c h + 1 = omega arith in (
           omega arith,
           met_down seen h met upto le is,
-          λ p a at own wr number. let s' : a.op < 4294967295 = short log opening ops k p a at in (done_before p a at own wr).1 (omega arith),
+          λ p a at own wr number. let s' : a.op < 4294967295 = short plan k p a at in (done_before p a at own wr).1 (omega arith),
         )
 
     pub passed_below : (upto : ℕ) → IsPassed c s.written seen h upto → upto < s.next.number
@@ -66,7 +65,7 @@ module _ (log : Log) (opening : List ℕ) (ops : ℕ → ℕ → List Op) (k : K
         let t = kept.there (omega arith) in
         let n : t.1.number ≡ s.next.number = t.3.1 in
         let e : t.1.op ≡ s.next.op = t.3.2 in
-        let low : place_of t.1 < place s.next.number s.next.op = (done_before t.0 t.1 t.2 t.3.0 t.4).0 (passed.2 t.0 t.1 t.2 t.3.0 t.4 (omega arith)) in
+        let low : operation_place t.1 < place s.next.number s.next.op = (done_before t.0 t.1 t.2 t.3.0 t.4).0 (passed.2 t.0 t.1 t.2 t.3.0 t.4 (omega arith)) in
         absurd (omega arith))
         lt_of_not-le
 
@@ -77,45 +76,45 @@ module _ (log : Log) (opening : List ℕ) (ops : ℕ → ℕ → List Op) (k : K
       most = λ m passed. let l : m < s.next.number = passed_below m passed in let r : m ≤ met = most m (omega arith) passed.1 in omega arith;
     }
 
-    pub may_write : (n i met p : ℕ) (a : Operation) → At c p a → IsName h n i a → a.write ≡ true → place n i ≡ place s.next.number s.next.op → i ≤ 4294967295 → IsMet c seen h met → n ≤ met → MayWrite c h s.written seen p a
+    pub may_write : (n i met p : ℕ) (a : Operation) → At c p a → IsName h n i a → a.what.write ≡ true → place n i ≡ place s.next.number s.next.op → i ≤ 4294967295 → IsMet c seen h met → n ≤ met → MayWrite c h s.written seen p a
     may_write n i met p a at name w e small is le =
         let one = one_name n i s.next.number s.next.op small next_small e in
-        let r : rank h c.operations p ≡ writes_before c h n i = rank_by_name c (names log opening ops k) (short log opening ops k) h n i p a at name in
+        let r : rank h c.operations p ≡ writes_before c h n i = rank_by_name c (names plan k) (short plan k) h n i p a at name in
         let same : writes_before c h n i ≡ s.written = (λ d. writes_before c h (one.0 d) (one.1 d)) ∙ sym kept.count in
         let number : a.number ≡ n = name.1 in
         (at, w, name.0, r ∙ same, met_down seen h met a.number (omega arith) is)
 
-    pub is_next : (p : ℕ) (a : Operation) → MayWrite c h s.written seen p a → place_of a ≡ place s.next.number s.next.op
+    pub is_next : (p : ℕ) (a : Operation) → MayWrite c h s.written seen p a → operation_place a ≡ place s.next.number s.next.op
     is_next p a may =
         let full : rank h c.operations p ≡ s.written = may.3 in
         let d = done_before p a may.0 may.2 may.1 in
-        let high : place s.next.number s.next.op ≤ place_of a = dite (dec_le (place s.next.number s.next.op) (place_of a)) (λ l. l) (λ n. let l : rank h c.operations p < s.written = d.1 (lt_of_not-le n) in absurd (omega arith)) in
+        let high : place s.next.number s.next.op ≤ operation_place a = dite (dec_le (place s.next.number s.next.op) (operation_place a)) (λ l. l) (λ n. let l : rank h c.operations p < s.written = d.1 (lt_of_not-le n) in absurd (omega arith)) in
         let number : a.number ≤ length_of c h = subst (λ (z : ℕ). a.number ≤ length_of c z) may.2 (k.inside p a may.0).number in
-        let s' : a.op < 4294967295 = short log opening ops k p a may.0 in
+        let s' : a.op < 4294967295 = short plan k p a may.0 in
         let small : s.next.op ≤ 4294967295 = next_small in
         let low : s.next.number ≤ length_of c h = omega arith in
         let t = kept.there low in
         let n : t.1.number ≡ s.next.number = t.3.1 in
         let e : t.1.op ≡ s.next.op = t.3.2 in
-        dite (ℕ_discrete (place_of a) (place s.next.number s.next.op)) (λ y. y)
-        (λ ne. let o : place_of a ≡ place s.next.number s.next.op → ⊥ = ne in
-        let more : writes_before c h t.1.number (t.1.op + 1) ≡ writes_before c h t.1.number t.1.op + 1 = next_write c (names log opening ops k) (short log opening ops k) h t.1.number t.1.op t.0 t.1 t.2 (t.3.0, refl, refl) t.4 in
+        dite (ℕ_discrete (operation_place a) (place s.next.number s.next.op)) (λ y. y)
+        (λ ne. let o : operation_place a ≡ place s.next.number s.next.op → ⊥ = ne in
+        let more : writes_before c h t.1.number (t.1.op + 1) ≡ writes_before c h t.1.number t.1.op + 1 = next_write c (names plan k) (short plan k) h t.1.number t.1.op t.0 t.1 t.2 (t.3.0, refl, refl) t.4 in
         let here : writes_before c h t.1.number t.1.op ≡ s.written = (λ d. writes_before c h (t.3.1 d) (t.3.2 d)) ∙ sym kept.count in
-        let before : t.0 < p = by_place c (names log opening ops k) (short log opening ops k) t.0 p t.1 a t.2 may.0 (t.3.0 ∙ sym may.2) (omega arith) in
+        let before : t.0 < p = by_place c (names plan k) (short plan k) t.0 p t.1 a t.2 may.0 (t.3.0 ∙ sym may.2) (omega arith) in
         let up : rank h c.operations t.0 < rank h c.operations p = rank_lt h c.operations t.0 p t.1 t.2 (is_write h t.1 t.4 t.3.0) before in
-        let r : rank h c.operations t.0 ≡ writes_before c h t.1.number t.1.op = rank_by_name c (names log opening ops k) (short log opening ops k) h t.1.number t.1.op t.0 t.1 t.2 (t.3.0, refl, refl) in
+        let r : rank h c.operations t.0 ≡ writes_before c h t.1.number t.1.op = rank_by_name c (names plan k) (short plan k) h t.1.number t.1.op t.0 t.1 t.2 (t.3.0, refl, refl) in
         absurd (omega arith))
 
     -- what is kept after the hart's next write
-    pub written_kept : (n i met p : ℕ) (a : Operation) (to : Place) → At c p a → IsName h n i a → a.write ≡ true → place n i ≡ place s.next.number s.next.op → i ≤ 4294967295
+    pub written_kept : (n i met p : ℕ) (a : Operation) (to : Place) → At c p a → IsName h n i a → a.what.write ≡ true → place n i ≡ place s.next.number s.next.op → i ≤ 4294967295
         → IsMet c seen h met → met ≤ length_of c h
         → 1 ≤ to.number → place to.number to.op ≤ place (length_of c h + 1) 0 → writes_before c h to.number to.op ≡ writes_before c h n (i + 1)
-        → (to.number ≤ length_of c h → (q : ℕ) × (b : Operation) × At c q b × IsName h to.number to.op b × (b.write ≡ true))
+        → (to.number ≤ length_of c h → (q : ℕ) × (b : Operation) × At c q b × IsName h to.number to.op b × (b.what.write ≡ true))
         → IsKept c h (record s { written = s.written + 1; next = to; met = met })
     written_kept n i met p a to at name w e small is top from within count there =
         let one = one_name n i s.next.number s.next.op small next_small e in
         let same : writes_before c h n i ≡ s.written = (λ d. writes_before c h (one.0 d) (one.1 d)) ∙ sym kept.count in
-        let more : writes_before c h n (i + 1) ≡ writes_before c h n i + 1 = next_write c (names log opening ops k) (short log opening ops k) h n i p a at name w in
+        let more : writes_before c h n (i + 1) ≡ writes_before c h n i + 1 = next_write c (names plan k) (short plan k) h n i p a at name w in
         record { eight = kept.eight; met_low = top; met = is; from_one = from; within = within; count = omega arith; there = there }
 
     -- the same once more needs were found to be met, or more is advertised
@@ -129,17 +128,9 @@ module _ (log : Log) (opening : List ℕ) (ops : ℕ → ℕ → List Op) (k : K
       abbrev a : Operation
       a = operation_of h n i o
 
-      apart : (q : ℕ) (b : Operation) → At c q b → b.write ≡ true → p ≢ q
+      apart : (q : ℕ) (b : Operation) → At c q b → b.what.write ≡ true → p ≢ q
       apart q b is w e = let same : a ≡ b = some-injective a b (sym at ∙ subst (λ (z : ℕ). At c z b) (sym e) is) in
-          let f : false ≡ true = sym is_read ∙ (ap (λ (z : Operation). z.write) same ∙ w) in absurd (cc)
-
-      to_loose : (b : Operation) → Meets b a → Meets b (loose o)
-      unfolding covers
-      to_loose b m = (m.0, m.1, m.2, m.3)
-
-      from_loose : (b : Operation) → Meets b (loose o) → Meets b a
-      unfolding covers
-      from_loose b m = (m.0, m.1, m.2, m.3)
+          let f : false ≡ true = sym is_read ∙ (ap (λ (z : Operation). z.what.write) same ∙ w) in absurd (cc)
 
       -- no write that clashes stands between the read and the next write, whichever of them is first
       abbrev IsClear : Type 0
@@ -155,12 +146,12 @@ module _ (log : Log) (opening : List ℕ) (ops : ℕ → ℕ → List Op) (k : K
         λ q b there w own on. let d = done_before q b there own w in (
           (λ l. dite (dec_le p q)
               (λ le'. let ne : p ≡ q → ⊥ = apart q b there w in
-              let after : place n i < place_of b = in_place c (names log opening ops k) (short log opening ops k) p q a b at there (sym own) (omega arith) in
-              absurd (clear.0 (q, b, there, w, own, to_loose b on, (omega arith), d.0 l)))
+              let after : place n i < operation_place b = in_place c (names plan k) (short plan k) p q a b at there (sym own) (omega arith) in
+              absurd (clear.0 (q, b, there, w, own, on, (omega arith), d.0 l)))
               lt_of_not-le),
-          (λ l. let first : place_of b < place n i = in_place c (names log opening ops k) (short log opening ops k) q p b a there at own l in
-              dite (dec_le (place s.next.number s.next.op) (place_of b))
-              (λ le'. absurd (clear.1 (q, b, there, w, own, to_loose b on, le', first)))
+          (λ l. let first : operation_place b < place n i = in_place c (names plan k) (short plan k) q p b a there at own l in
+              dite (dec_le (place s.next.number s.next.op) (operation_place b))
+              (λ le'. absurd (clear.1 (q, b, there, w, own, on, le', first)))
               (λ x. d.1 (lt_of_not-le x))),
         ),
       )
@@ -168,13 +159,13 @@ module _ (log : Log) (opening : List ℕ) (ops : ℕ → ℕ → List Op) (k : K
       pub clear_read : MayRead c h s.written s.progress seen p a → IsClear
       clear_read may = (
         (λ t. let d = done_before t.0 t.1 t.2 t.4 t.3 in
-            let r = may.5 t.0 t.1 t.2 t.3 t.4 (from_loose t.1 t.5) in
+            let r = may.5 t.0 t.1 t.2 t.3 t.4 t.5 in
             let first : t.0 < p = r.0 (d.1 t.7) in
-            let l : place_of t.1 < place n i = in_place c (names log opening ops k) (short log opening ops k) t.0 p t.1 a t.2 at t.4 first in
-            let le : place n i ≤ place_of t.1 = t.6 in absurd (omega arith)),
+            let l : operation_place t.1 < place n i = in_place c (names plan k) (short plan k) t.0 p t.1 a t.2 at t.4 first in
+            let le : place n i ≤ operation_place t.1 = t.6 in absurd (omega arith)),
         (λ t. let d = done_before t.0 t.1 t.2 t.4 t.3 in
-            let r = may.5 t.0 t.1 t.2 t.3 t.4 (from_loose t.1 t.5) in
-            let first : t.0 < p = by_place c (names log opening ops k) (short log opening ops k) t.0 p t.1 a t.2 at t.4 t.7 in
-            let l : place_of t.1 < place s.next.number s.next.op = d.0 (r.1 first) in
-            let le : place s.next.number s.next.op ≤ place_of t.1 = t.6 in absurd (omega arith)),
+            let r = may.5 t.0 t.1 t.2 t.3 t.4 t.5 in
+            let first : t.0 < p = by_place c (names plan k) (short plan k) t.0 p t.1 a t.2 at t.4 t.7 in
+            let l : operation_place t.1 < place s.next.number s.next.op = d.0 (r.1 first) in
+            let le : place s.next.number s.next.op ≤ operation_place t.1 = t.6 in absurd (omega arith)),
       )

@@ -12,6 +12,7 @@ use Rattle.order_core.proofs.Progress.{need_within}
 
 pub record Known (c : Course) : Type 0 where
   pub harts : c.log.harts ≤ 8
+  pub few : length c.log.lines < 4294967295
   pub size : length c.opening < 2 ^ 32
   pub inside : (p : ℕ) (a : Operation) → At c p a → IsInside c a
   pub needs : (u n h m : ℕ) → IsNeed c.log.lines u n h m → u < c.log.harts
@@ -19,8 +20,9 @@ pub record Known (c : Course) : Type 0 where
 
 pub known : (c : Course) → ∥ IsLawful c ∥₁ → Known c
 known c law = ∥∥₁_elim law (hlevel props) (λ (l : IsLawful c). record {
-  harts = l.harts.1;
-  size = l.size.1;
+  harts = l.log.opening.few;
+  few = l.few;
+  size = l.table.size.1;
   inside = l.inside;
   needs = λ u n h m need. (need_within c l u n h m need).1;
   first = no_first_need c l;

@@ -2,7 +2,6 @@
 use Rattle.std.proofs.Common.{◌≡◌, ℕ, ◌+◌, ◌<◌, ◌≤◌, true, false, length, List, Some, slice_get, slice_index, slice_set, refl, sym, ap, ◌∙◌, subst, inl, inr, arith}
 use mathlib.Core.Logic.{dite}
 use native.Mathlib.Decide.{ℕ_discrete}
-use Rattle.pl_event.specs.declared.log.Log.{Log}
 use Rattle.order_core.specs.declared.course.Course.{Course}
 use Rattle.order_core.specs.declared.course.Op.{Op}
 use Rattle.order_core.specs.declared.course.Operation.{Operation}
@@ -10,11 +9,11 @@ use Rattle.order_core.specs.declared.place.Place.{Place}
 use Rattle.order_core.specs.declared.state.HartState.{HartState}
 use Rattle.order_core.specs.declared.state.CoreState.{CoreState}
 use Rattle.order_core.specs.declared.steps.Act.TheVariants.{Perform}
-use Rattle.order_core.specs.Course.{At, course_of, length_of, operation_of}
+use Rattle.order_core.specs.Course.{Planned, At, course_of, length_of, operation_of}
 use Rattle.order_core.specs.Core.{Core, IsMet, MayRead, put, after_see, after_advertise}
-use Rattle.order_core.specs.Lanes.{covers, Lands}
+use Rattle.order_core.specs.Lanes.{Lands}
 use Rattle.order_core.specs.Lawful.{IsName}
-use Rattle.order_core.specs.Places.{place, loose, ClashesBetween}
+use Rattle.order_core.specs.Places.{place, ClashesBetween}
 use Rattle.order_core.specs.Runs.{IsAllowed, Makes}
 use Rattle.order_core.specs.States.{hart_in, core_in, core_of, IsKept, Fits}
 use Rattle.order_core.proofs.HartLemmas.{only_one, is_next, may_write, may_read, clear_read, seen_kept}
@@ -23,9 +22,9 @@ use Rattle.order_core.proofs.Named.{op_at}
 use Rattle.order_core.proofs.Ranks.{put_here, put_else}
 use Rattle.order_core.proofs.StateLemmas.{core_set, number_set, put_own, same_length, kept_set}
 
-module _ (log : Log) (opening : List ℕ) (ops : ℕ → ℕ → List Op) (k : Known (course_of log opening ops)) where
+module _ (plan : Planned) (k : Known (course_of plan)) where
   abbrev c : Course
-  c = course_of log opening ops
+  c = course_of plan
 
   module _ (s : CoreState) (fits : Fits c s) (h : ℕ) (low : h < c.log.harts) where
     abbrev own : HartState
@@ -65,7 +64,7 @@ module _ (log : Log) (opening : List ℕ) (ops : ℕ → ℕ → List Op) (k : K
 
       pub see_fits : Fits c (record s { harts = slice_set s.harts h looked })
       see_fits = record {
-        harts = kept_set c s.harts fits.harts h looked in_eight (seen_kept log opening ops k h own kept looked.seen (same_length own.seen of number ∙ kept.eight) (λ u. (look_at u).0)) (omega arith) (λ u. (look_at u).1);
+        harts = kept_set c s.harts fits.harts h looked in_eight (seen_kept plan k h own kept looked.seen (same_length own.seen of number ∙ kept.eight) (λ u. (look_at u).0)) (omega arith) (λ u. (look_at u).1);
         words = fits.words;
       }
 
@@ -114,35 +113,31 @@ module _ (log : Log) (opening : List ℕ) (ops : ℕ → ℕ → List Op) (k : K
     not_met n i missing (p, a, name, inl w) = missing (subst (λ (z : ℕ). IsMet c (slice_index own.seen) h z) name.1 w.4)
     not_met n i missing (p, a, name, inr r) = missing (subst (λ (z : ℕ). IsMet c (slice_index own.seen) h z) name.1 r.3)
 
-    module _ (n i : ℕ) (o : Op) (from : 1 ≤ n) (top : n ≤ length_of c h) (there : slice_get (ops h n) i ≡ Some o) where
+    module _ (n i : ℕ) (o : Op) (from : 1 ≤ n) (top : n ≤ length_of c h) (there : slice_get (plan.operations h n) i ≡ Some o) where
       abbrev a : Operation
       a = operation_of h n i o
 
       pub found : (p : ℕ) × At c p a
-      found = op_at log opening ops h n i o from top there
+      found = op_at plan h n i o from top there
 
       pub word_inside : o.word < length s.words.items
-      word_inside = let l : o.word < length c.opening = (k.inside found.0 a found.1).high in let e : length s.words.items ≡ length c.opening = fits.words in omega arith
+      word_inside = let l : o.word < length c.opening = (k.inside found.0 a found.1).what.high in let e : length s.words.items ≡ length c.opening = fits.words in omega arith
 
       pub lanes_low : o.lanes ≤ 15
-      lanes_low = (k.inside found.0 a found.1).lanes.1
+      lanes_low = (k.inside found.0 a found.1).what.lanes.1
 
       pub op_low : i < 4294967295
       op_low = (k.inside found.0 a found.1).op
 
-      lands_here : (x v : ℕ) → Lands (loose o) x v → Lands a x v
-      unfolding covers
-      lands_here x v l j four = ((λ cov. (l j four).0 cov), (λ cov. (l j four).1 cov))
-
       is_op : (p : ℕ) (b : Operation) → At c p b → IsName h n i b → b ≡ a
-      is_op p b at name = only_one log opening ops k h n i p b o there at name
+      is_op p b at name = only_one plan k h n i p b o there at name
 
       module _ (writes : o.write ≡ true) where
         pub not_next : (place n i ≡ place own.next.number own.next.op → ⊥) → IsAllowed c core h (Perform n i) → ⊥
-        not_next apart (p, b, name, inl w) = apart ((λ d. place (sym name.1 d) (sym name.2 d)) ∙ is_next log opening ops k h own kept p b w)
-        not_next apart (p, b, name, inr r) = let f : true ≡ false = sym writes ∙ (sym (ap (λ (z : Operation). z.write) (is_op p b r.0 name)) ∙ r.1) in absurd (cc)
+        not_next apart (p, b, name, inl w) = apart ((λ d. place (sym name.1 d) (sym name.2 d)) ∙ is_next plan k h own kept p b w)
+        not_next apart (p, b, name, inr r) = let f : true ≡ false = sym writes ∙ (sym (ap (λ (z : Operation). z.what.write) (is_op p b r.0 name)) ∙ r.1) in absurd (cc)
 
-        pub written : (to : Place) (met v : ℕ) (ws : List ℕ) → ws ≡ slice_set s.words.items o.word v → Lands (loose o) (slice_index s.words.items o.word) v
+        pub written : (to : Place) (met v : ℕ) (ws : List ℕ) → ws ≡ slice_set s.words.items o.word v → Lands o (slice_index s.words.items o.word) v
             → place n i ≡ place own.next.number own.next.op → IsMet c (slice_index own.seen) h met → n ≤ met
             → Makes c core h (Perform n i) (core_in (slice_set s.harts h (record own { written = own.written + 1; next = to; met = met })) ws)
         written to met v ws is lands same met_is le = (
@@ -150,26 +145,26 @@ module _ (log : Log) (opening : List ℕ) (ops : ℕ → ℕ → List Op) (k : K
           a,
           (refl, refl, refl),
           inl (
-            may_write log opening ops k h own kept n i met found.0 a found.1 (refl, refl, refl) writes same (let l : i < 4294967295 = op_low in omega arith) met_is le,
+            may_write plan k h own kept n i met found.0 a found.1 (refl, refl, refl) writes same (let l : i < 4294967295 = op_low in omega arith) met_is le,
             v,
-            lands_here (slice_index s.words.items o.word) v lands,
+            lands,
             write_made to met o.word v ws is word_inside,
           ),
         )
 
       module _ (reads : o.write ≡ false) where
         pub not_above : n ≤ own.progress → IsAllowed c core h (Perform n i) → ⊥
-        not_above le (p, b, name, inl w) = let f : false ≡ true = sym reads ∙ (sym (ap (λ (z : Operation). z.write) (is_op p b w.0 name)) ∙ w.1) in absurd (cc)
+        not_above le (p, b, name, inl w) = let f : false ≡ true = sym reads ∙ (sym (ap (λ (z : Operation). z.what.write) (is_op p b w.0 name)) ∙ w.1) in absurd (cc)
         not_above le (p, b, name, inr r) = let up : own.progress < b.number = r.4 in let e : b.number ≡ n = name.1 in absurd (omega arith)
 
         abbrev pub IsClear : Type 0
         IsClear = (ClashesBetween c h o (place n i) (place own.next.number own.next.op) → ⊥) × (ClashesBetween c h o (place own.next.number own.next.op) (place n i) → ⊥)
 
         pub not_clear : (IsClear → ⊥) → IsAllowed c core h (Perform n i) → ⊥
-        not_clear clash (p, b, name, inl w) = let f : false ≡ true = sym reads ∙ (sym (ap (λ (z : Operation). z.write) (is_op p b w.0 name)) ∙ w.1) in absurd (cc)
+        not_clear clash (p, b, name, inl w) = let f : false ≡ true = sym reads ∙ (sym (ap (λ (z : Operation). z.what.write) (is_op p b w.0 name)) ∙ w.1) in absurd (cc)
         not_clear clash (p, b, name, inr r) =
             let e : b ≡ a = is_op p b r.0 name in
-            clash (clear_read log opening ops k h own kept n i p o (subst (At c p) e r.0) reads (subst (λ (z : Operation). MayRead c h own.written own.progress (slice_index own.seen) p z) e r))
+            clash (clear_read plan k h own kept n i p o (subst (At c p) e r.0) reads (subst (λ (z : Operation). MayRead c h own.written own.progress (slice_index own.seen) p z) e r))
 
         pub read : (met : ℕ) → IsMet c (slice_index own.seen) h met → n ≤ met → own.progress < n → IsClear
             → Makes c core h (Perform n i) (core_of (record s { harts = slice_set s.harts h (record own { met = met }) }))
@@ -177,5 +172,5 @@ module _ (log : Log) (opening : List ℕ) (ops : ℕ → ℕ → List Op) (k : K
           found.0,
           a,
           (refl, refl, refl),
-          inr (may_read log opening ops k h own kept n i found.0 o found.1 reads met is le up clear, read_made met),
+          inr (may_read plan k h own kept n i found.0 o found.1 reads met is le up clear, read_made met),
         )

@@ -3,13 +3,12 @@ use Rattle.std.proofs.Common.{◌≡◌, ℕ, zero, suc, ◌+◌, ◌≤◌, Lis
 use mathlib.Core.Option.{some, some-injective, some-ne-none}
 use lib.ListN.{get_elem?}
 use Rattle.pl_event.specs.declared.log.Line.{Line}
-use Rattle.pl_event.specs.declared.log.Log.{Log}
 use Rattle.pl_event.specs.Numbers.{hart_of}
 use Rattle.pl_event.specs.Records.{records_before, IsRecord}
 use Rattle.pl_event.proofs.Places.{record_at}
 use Rattle.order_core.specs.declared.course.Op.{Op}
 use Rattle.order_core.specs.declared.course.Operation.{Operation}
-use Rattle.order_core.specs.Course.{operation_of, tagged, operations_from, course_of, At, length_of}
+use Rattle.order_core.specs.Course.{Planned, operation_of, tagged, operations_from, course_of, At, length_of}
 use Rattle.order_core.specs.Lawful.{IsName}
 use Rattle.order_core.proofs.Flatten.{at_append, at_left, at_right}
 
@@ -63,21 +62,21 @@ module _ (ops : ℕ → ℕ → List Op) (g : List Line) where
       let t = stands_in (suc i) rest k j x e (omega arith) y o f in
       (length (head i z) + t.0, at_right (head i z) (tail i rest) (length (head i z) + t.0) t.0 (operation_of (hart_of x.what) (records_before (hart_of x.what) g j + 1) y o) refl t.1)
 
-module _ (log : Log) (opening : List ℕ) (ops : ℕ → ℕ → List Op) where
-  pub op_of : (p : ℕ) (a : Operation) → At (course_of log opening ops) p a → (o : Op) × (slice_get (ops a.hart a.number) a.op ≡ Some o) × (a ≡ operation_of a.hart a.number a.op o)
-  op_of p a at = is_one ops log.lines 0 log.lines p a at
+module _ (plan : Planned) where
+  pub op_of : (p : ℕ) (a : Operation) → At (course_of plan) p a → (o : Op) × (slice_get (plan.operations a.hart a.number) a.op ≡ Some o) × (a ≡ operation_of a.hart a.number a.op o)
+  op_of p a at = is_one plan.operations plan.log.lines 0 plan.log.lines p a at
 
-  pub op_at : (h m y : ℕ) (o : Op) → 1 ≤ m → m ≤ length_of (course_of log opening ops) h → slice_get (ops h m) y ≡ Some o → (p : ℕ) × At (course_of log opening ops) p (operation_of h m y o)
+  pub op_at : (h m y : ℕ) (o : Op) → 1 ≤ m → m ≤ length_of (course_of plan) h → slice_get (plan.operations h m) y ≡ Some o → (p : ℕ) × At (course_of plan) p (operation_of h m y o)
   op_at h m y o low high f =
-      let t = record_at log.lines (length log.lines) h m low high in
-      let is : IsRecord log.lines t.0 h m t.1 = t.3 in
-      let P : ℕ × ℕ → Type 0 = λ z. (p : ℕ) × At (course_of log opening ops) p (operation_of z.0 z.1 y o) in
-      let number : records_before (hart_of t.1.what) log.lines t.0 + 1 ≡ m = ap (λ (z : ℕ). records_before z log.lines t.0 + 1) is.hart ∙ is.number in
+      let t = record_at plan.log.lines (length plan.log.lines) h m low high in
+      let is : IsRecord plan.log.lines t.0 h m t.1 = t.3 in
+      let P : ℕ × ℕ → Type 0 = λ z. (p : ℕ) × At (course_of plan) p (operation_of z.0 z.1 y o) in
+      let number : records_before (hart_of t.1.what) plan.log.lines t.0 + 1 ≡ m = ap (λ (z : ℕ). records_before z plan.log.lines t.0 + 1) is.hart ∙ is.number in
       subst P (λ d. (is.hart d, number d))
-      (stands_in ops log.lines 0 log.lines t.0 t.0 t.1 is.at (omega arith) y o (subst (λ (z : ℕ × ℕ). slice_get (ops z.0 z.1) y ≡ Some o) (λ d. (sym is.hart d, sym number d)) f))
+      (stands_in plan.operations plan.log.lines 0 plan.log.lines t.0 t.0 t.1 is.at (omega arith) y o (subst (λ (z : ℕ × ℕ). slice_get (plan.operations z.0 z.1) y ≡ Some o) (λ d. (sym is.hart d, sym number d)) f))
 
-  pub op_none : (h m y : ℕ) → slice_get (ops h m) y ≡ None → (p : ℕ) (a : Operation) → At (course_of log opening ops) p a → IsName h m y a → ⊥
+  pub op_none : (h m y : ℕ) → slice_get (plan.operations h m) y ≡ None → (p : ℕ) (a : Operation) → At (course_of plan) p a → IsName h m y a → ⊥
   op_none h m y f p a at name =
       let t = op_of p a at in
-      let there : slice_get (ops h m) y ≡ Some t.0 = subst (λ (z : ℕ × ℕ × ℕ). slice_get (ops z.0 z.1) z.2 ≡ Some t.0) (λ d. (name.0 d, name.1 d, name.2 d)) t.1 in
+      let there : slice_get (plan.operations h m) y ≡ Some t.0 = subst (λ (z : ℕ × ℕ × ℕ). slice_get (plan.operations z.0 z.1) z.2 ≡ Some t.0) (λ d. (name.0 d, name.1 d, name.2 d)) t.1 in
       absurd (let u : None ≡ some_op t.0 = sym f ∙ there in cc)

@@ -8,7 +8,7 @@ use Rattle.order_core.specs.declared.course.Operation.{Operation}
 use Rattle.order_core.specs.Course.{At, rank, is_write_of}
 use Rattle.order_core.specs.Counts.{count_if, is_before, writes_before}
 use Rattle.order_core.specs.Lawful.{InOrder}
-use Rattle.order_core.specs.Places.{place, place_of}
+use Rattle.order_core.specs.Places.{place, operation_place}
 use Rattle.order_core.proofs.Counts.{before_true, before_false, rank_by_name, next_write}
 
 abbrev bit : Bool → ℕ
@@ -53,25 +53,25 @@ one_name n i m j small short e = let s : n ≡ m = omega arith in (s, omega arit
 
 module _ (c : Course) (names : InOrder c) (short : (p : ℕ) (a : Operation) → At c p a → a.op < 4294967295) where
   -- of two operations of a hart the one with the earlier place comes first
-  pub in_place : (p q : ℕ) (a b : Operation) → At c p a → At c q b → a.hart ≡ b.hart → p < q → place_of a < place_of b
+  pub in_place : (p q : ℕ) (a b : Operation) → At c p a → At c q b → a.hart ≡ b.hart → p < q → operation_place a < operation_place b
   in_place p q a b x y same l =
       let s : a.op < 4294967295 = short p a x in
       ⊎_elim (λ (t : a.number < b.number). omega arith) (λ (t : (a.number ≡ b.number) × (a.op < b.op)). let u : a.number ≡ b.number = t.0 in let v : a.op < b.op = t.1 in omega arith) (names.order p q a b x y l same)
 
-  pub by_place : (p q : ℕ) (a b : Operation) → At c p a → At c q b → a.hart ≡ b.hart → place_of a < place_of b → p < q
+  pub by_place : (p q : ℕ) (a b : Operation) → At c p a → At c q b → a.hart ≡ b.hart → operation_place a < operation_place b → p < q
   by_place p q a b x y same l = dite (ℕ_discrete p q)
       (λ e. let one : a ≡ b = some-injective a b (sym x ∙ subst (λ (z : ℕ). At c z b) (sym e) y) in
-      let f : place_of a ≡ place_of b = ap (λ (z : Operation). place_of z) one in absurd (omega arith))
+      let f : operation_place a ≡ operation_place b = ap (λ (z : Operation). operation_place z) one in absurd (omega arith))
       (λ ne. let o : p ≡ q → ⊥ = ne in dite (dec_le p q) (λ le. omega arith)
-      (λ n. let s : q < p = lt_of_not-le n in let back : place_of b < place_of a = in_place q p b a y x (sym same) s in absurd (omega arith)))
+      (λ n. let s : q < p = lt_of_not-le n in let back : operation_place b < operation_place a = in_place q p b a y x (sym same) s in absurd (omega arith)))
 
   -- where a count is that of the writes before a place, the writes that it counts are those before the place
-  pub counted : (h n i w q : ℕ) (b : Operation) → i ≤ 4294967295 → w ≡ writes_before c h n i → At c q b → b.hart ≡ h → b.write ≡ true → (rank h c.operations q < w → place_of b < place n i) × (place_of b < place n i → rank h c.operations q < w)
+  pub counted : (h n i w q : ℕ) (b : Operation) → i ≤ 4294967295 → w ≡ writes_before c h n i → At c q b → b.hart ≡ h → b.what.write ≡ true → (rank h c.operations q < w → operation_place b < place n i) × (operation_place b < place n i → rank h c.operations q < w)
   counted h n i w q b small e at own wr =
       let s : b.op < 4294967295 = short q b at in
       let r : rank h c.operations q ≡ writes_before c h b.number b.op = rank_by_name c names short h b.number b.op q b at (own, refl, refl) in
       let more : writes_before c h b.number (b.op + 1) ≡ writes_before c h b.number b.op + 1 = next_write c names short h b.number b.op q b at (own, refl, refl) wr in (
-        (λ l. dite (dec_le (place n i) (place_of b))
+        (λ l. dite (dec_le (place n i) (operation_place b))
             (λ le. let up : writes_before c h n i ≤ writes_before c h b.number b.op = before_up c h n i b.number b.op small (omega arith) le in absurd (omega arith))
             lt_of_not-le),
         (λ l. let up : writes_before c h b.number (b.op + 1) ≤ writes_before c h n i = before_up c h b.number (b.op + 1) n i (omega arith) small (omega arith) in omega arith),

@@ -17,7 +17,7 @@ use Rattle.order_core.specs.declared.course.Operation.{Operation}
 use Rattle.order_core.specs.Lanes.{Meets}
 use Rattle.order_core.specs.Course.{At, rank, is_write_of, length_of}
 use Rattle.order_core.specs.Lawful.{IsLawful}
-use Rattle.order_core.specs.Core.{Core, IsMet, IsPassed, MayWrite, MayRead, Stands}
+use Rattle.order_core.specs.Core.{Core, IsMet, IsPassed, MayWrite, MayRead, IsConsistent}
 use Rattle.order_core.proofs.Ranks.{eqb_is, is_write, rank_lt}
 
 abbrev bit : Bool → ℕ
@@ -100,18 +100,18 @@ module _ (c : Course) (law : IsLawful c) where
 
   -- what a record needs stands before it
   needed_before : (i h m : ℕ) (l : Line) → IsRecord g i h m l → (u n : ℕ) → IsNeed g u n h m → n ≤ records_before u g i
-  needed_before i h m l is u n need = source_before c.log.harts g law.flow i h m u n l is (need_edge c.log.harts g law.flow u n h m need)
+  needed_before i h m l is u n need = source_before c.log.harts g law.log.flow i h m u n l is (need_edge c.log.harts g law.log.flow u n h m need)
 
   -- a record needs records of other harts of the run
   into_within : (u n h m : ℕ) → Into g u n h m → (u ≢ h) × (u < c.log.harts)
-  into_within u n h m (inl a) = let t = law.flow.arcs a.0 h m a.1 a.2 u n a.3 in (t.1, t.0)
-  into_within u n h m (inr (inl a)) = let t = law.flow.notices a.0 u n a.1 a.2 h m a.3 in ((λ e. t.1 (sym e)), law.flow.within a.0 u n a.1 a.2)
-  into_within u n h m (inr (inr a)) = let t = law.flow.notices a.5.0 h a.2 a.5.1 a.5.2 u n a.5.3 in (t.1, t.0)
+  into_within u n h m (inl a) = let t = law.log.flow.arcs a.0 h m a.1 a.2 u n a.3 in (t.1, t.0)
+  into_within u n h m (inr (inl a)) = let t = law.log.flow.notices a.0 u n a.1 a.2 h m a.3 in ((λ e. t.1 (sym e)), law.log.flow.within a.0 u n a.1 a.2)
+  into_within u n h m (inr (inr a)) = let t = law.log.flow.notices a.5.0 h a.2 a.5.1 a.5.2 u n a.5.3 in (t.1, t.0)
 
   pub need_within : (u n h m : ℕ) → IsNeed g u n h m → (u ≢ h) × (u < c.log.harts)
-  need_within u n h m need = into_within u n h m (need_edge c.log.harts g law.flow u n h m need)
+  need_within u n h m need = into_within u n h m (need_edge c.log.harts g law.log.flow u n h m need)
 
-  module _ (k : Core) (st : Stands c k) where
+  module _ (k : Core) (st : IsConsistent c k) where
     -- the records at the first i positions are advertised
     abbrev Told : ℕ → Type 0
     Told i = (j h m : ℕ) (l : Line) → j < i → IsRecord g j h m l → m ≤ k.progress h
@@ -122,7 +122,7 @@ module _ (c : Course) (law : IsLawful c) where
 
     module _ (i h m : ℕ) (l : Line) (told : Told i) (is : IsRecord g i h m l) (next : m ≡ k.progress h + 1) where
       own_hart : h < c.log.harts
-      own_hart = law.flow.within i h m l is
+      own_hart = law.log.flow.within i h m l is
 
       abbrev Fine : ℕ → Type 0
       Fine u = (n j : ℕ) → IsNeed g u n h j → j ≤ m → n ≤ k.seen h u
@@ -157,20 +157,20 @@ module _ (c : Course) (law : IsLawful c) where
       all_fine all u n j need le = all u (need_within u n h j need).1 n j need le
 
       abbrev Done : ℕ → Operation → Type 0
-      Done p a = a.hart ≡ h → a.write ≡ true → a.number ≤ m → rank h c.operations p < k.written h
+      Done p a = a.hart ≡ h → a.what.write ≡ true → a.number ≤ m → rank h c.operations p < k.written h
 
       abbrev Due : ℕ → Operation → Type 0
-      Due p a = (a.hart ≡ h) × (a.write ≡ true) × (a.number ≤ m) × (k.written h ≤ rank h c.operations p)
+      Due p a = (a.hart ≡ h) × (a.what.write ≡ true) × (a.number ≤ m) × (k.written h ≤ rank h c.operations p)
 
       test_act : (x p : ℕ) (a : Operation) → get_elem? c.operations x ≡ some a → p ≡ 0 + x → Done p a ⊎ Due p a
       test_act x p a at same = dite (dec_le (k.written h) (rank h c.operations p))
           (λ l. dite (ℕ_discrete a.hart h) (λ own. dite (dec_le a.number m)
-          (λ le. by a.write refl own le l)
+          (λ le. by a.what.write refl own le l)
           (λ n. inl (λ _ _ le. absurd (n le))))
           (λ n. inl (λ own _ _. absurd (n own))))
           (λ n. inl (λ _ _ _. lt_of_not-le n))
         where
-          by : (b : Bool) → a.write ≡ b → a.hart ≡ h → a.number ≤ m → k.written h ≤ rank h c.operations p → Done p a ⊎ Due p a
+          by : (b : Bool) → a.what.write ≡ b → a.hart ≡ h → a.number ≤ m → k.written h ≤ rank h c.operations p → Done p a ⊎ Due p a
           by true e own le l = inr (own, e, le, l)
           by false e own le l = inl (λ _ w _. absurd (let f : true ≡ false = sym w ∙ e in cc))
 
@@ -182,7 +182,7 @@ module _ (c : Course) (law : IsLawful c) where
           let o : k.written h ≡ rank h c.operations p → ⊥ = n in
           let t = write_at h c.operations p (k.written h) (omega arith) in
           let b = t.1 in
-          let w = and_both b.write (eqb b.hart h) t.4 in
+          let w = and_both b.what.write (eqb b.hart h) t.4 in
           let own : b.hart ≡ h = eqb_is b.hart h w.1 in
           let order : b.number ≤ a.number = ⊎_elim (λ (x : b.number < a.number). omega arith) (λ (x : (b.number ≡ a.number) × (b.op < a.op)). (let y : b.number ≡ a.number = x.0 in omega arith)) (law.in_order.order t.0 p b a t.3 at t.2 (own ∙ sym due.0)) in
           let top : a.number ≤ m = due.2 in
@@ -236,7 +236,7 @@ module _ (c : Course) where
   read_after_see h p a w y f f' up m = (m.0, m.1, m.2, (λ u n j need l. let o : n ≤ f u = m.3 u n j need l in let q : f u ≤ f' u = up u in omega arith), m.4, m.5)
 
   -- and after its hart performs a write that does not clash with it
-  pub read_after_write : (h p q : ℕ) (a b : Operation) (w y : ℕ) (f : ℕ → ℕ) → MayRead c h w y f p a → At c q b → b.write ≡ true → b.hart ≡ h → rank h c.operations q ≡ w → (Meets b a → ⊥) → MayRead c h (w + 1) y f p a
+  pub read_after_write : (h p q : ℕ) (a b : Operation) (w y : ℕ) (f : ℕ → ℕ) → MayRead c h w y f p a → At c q b → b.what.write ≡ true → b.hart ≡ h → rank h c.operations q ≡ w → (Meets b.what a.what → ⊥) → MayRead c h (w + 1) y f p a
   read_after_write h p q a b w y f m at wr own full apart = (
     m.0,
     m.1,
@@ -245,13 +245,13 @@ module _ (c : Course) where
     m.4,
     λ x d is dw down on. let o = m.5 x d is dw down on in (
       (λ l. dite (dec_le w (rank h c.operations x))
-          (λ le. absurd (apart (subst (λ (z : Operation). Meets z a) (same x d is dw down (omega arith)) on)))
+          (λ le. absurd (apart (subst (λ (z : Operation). Meets z.what a.what) (same x d is dw down (omega arith)) on)))
           (λ n. o.0 (lt_of_not-le n))),
       (λ l. let r : rank h c.operations x < w = o.1 l in omega arith),
     ),
   )
     where
-      same : (x : ℕ) (d : Operation) → At c x d → d.write ≡ true → d.hart ≡ h → rank h c.operations x ≡ w → d ≡ b
+      same : (x : ℕ) (d : Operation) → At c x d → d.what.write ≡ true → d.hart ≡ h → rank h c.operations x ≡ w → d ≡ b
       same x d is dw down r = dite (ℕ_discrete x q)
           (λ e. some-injective d b (sym (subst (λ (z : ℕ). At c z d) e is) ∙ at))
           (λ n. let o : x ≡ q → ⊥ = n in dite (dec_le x q)

@@ -20,8 +20,8 @@ same_test a b c d f g = grind (arith, nat_tests)
 pub and_true : (a b : Bool) → a ≡ true → b ≡ true → (a && b) ≡ true
 and_true a b p q = ap (λ (x : Bool). x && b) p ∙ q
 
-pub is_write : (h : ℕ) (a : Operation) → a.write ≡ true → a.hart ≡ h → is_write_of h a ≡ true
-is_write h a w e = and_true a.write (eqb a.hart h) w (eq-eqb a.hart h e)
+pub is_write : (h : ℕ) (a : Operation) → a.what.write ≡ true → a.hart ≡ h → is_write_of h a ≡ true
+is_write h a w e = and_true a.what.write (eqb a.hart h) w (eq-eqb a.hart h e)
 
 pub rank_up : (h : ℕ) (xs : List Operation) (p q : ℕ) → p ≤ q → rank h xs p ≤ rank h xs q
 rank_up h [] p q l = omega arith
@@ -59,34 +59,34 @@ eqb_is a b e = grind (arith, nat_tests)
 
 -- two choices that agree on the writes of a word leave the same in it
 pub left_same : (f g : ℕ → Operation → Bool) (k : ℕ) (xs : List Operation) (w l v : ℕ)
-    → ((i j : ℕ) (a : Operation) → get_elem? xs i ≡ some a → j ≡ k + i → a.write ≡ true → a.word ≡ w → covers a l ≡ true → f j a ≡ g j a)
+    → ((i j : ℕ) (a : Operation) → get_elem? xs i ≡ some a → j ≡ k + i → a.what.write ≡ true → a.what.word ≡ w → covers a.what.lanes l ≡ true → f j a ≡ g j a)
     → left_in f k xs w l v ≡ left_in g k xs w l v
 left_same f g k [] w l v h = refl
 left_same f g k (x ∷ rest) w l v h =
-    let t : Bool = x.write && (eqb x.word w && covers x l) in
-    let head = cond_same (f k x) (g k x) t (lane l x.value) v (λ e. h 0 k x refl (omega arith) (and_left x.write (eqb x.word w && covers x l) e) (eqb_is x.word w (and_left (eqb x.word w) (covers x l) (and_right x.write (eqb x.word w && covers x l) e))) (and_right (eqb x.word w) (covers x l) (and_right x.write (eqb x.word w && covers x l) e))) in
-    ap (left_in f (suc k) rest w l) head ∙ left_same f g (suc k) rest w l (if g k x && t then lane l x.value else v) (λ i j a at e. h (suc i) j a at (omega arith))
+    let t : Bool = x.what.write && (eqb x.what.word w && covers x.what.lanes l) in
+    let head = cond_same (f k x) (g k x) t (lane l x.what.value) v (λ e. h 0 k x refl (omega arith) (and_left x.what.write (eqb x.what.word w && covers x.what.lanes l) e) (eqb_is x.what.word w (and_left (eqb x.what.word w) (covers x.what.lanes l) (and_right x.what.write (eqb x.what.word w && covers x.what.lanes l) e))) (and_right (eqb x.what.word w) (covers x.what.lanes l) (and_right x.what.write (eqb x.what.word w && covers x.what.lanes l) e))) in
+    ap (left_in f (suc k) rest w l) head ∙ left_same f g (suc k) rest w l (if g k x && t then lane l x.what.value else v) (λ i j a at e. h (suc i) j a at (omega arith))
 
 pub left_none : (f : ℕ → Operation → Bool) (k : ℕ) (xs : List Operation) (w l v : ℕ)
-    → ((i j : ℕ) (a : Operation) → get_elem? xs i ≡ some a → j ≡ k + i → a.write ≡ true → a.word ≡ w → covers a l ≡ true → f j a ≡ false)
+    → ((i j : ℕ) (a : Operation) → get_elem? xs i ≡ some a → j ≡ k + i → a.what.write ≡ true → a.what.word ≡ w → covers a.what.lanes l ≡ true → f j a ≡ false)
     → left_in f k xs w l v ≡ v
 left_none f k [] w l v h = refl
 left_none f k (x ∷ rest) w l v h =
-    let t : Bool = x.write && (eqb x.word w && covers x l) in
-    let head = cond_same (f k x) false t (lane l x.value) v (λ e. h 0 k x refl (omega arith) (and_left x.write (eqb x.word w && covers x l) e) (eqb_is x.word w (and_left (eqb x.word w) (covers x l) (and_right x.write (eqb x.word w && covers x l) e))) (and_right (eqb x.word w) (covers x l) (and_right x.write (eqb x.word w && covers x l) e))) in
+    let t : Bool = x.what.write && (eqb x.what.word w && covers x.what.lanes l) in
+    let head = cond_same (f k x) false t (lane l x.what.value) v (λ e. h 0 k x refl (omega arith) (and_left x.what.write (eqb x.what.word w && covers x.what.lanes l) e) (eqb_is x.what.word w (and_left (eqb x.what.word w) (covers x.what.lanes l) (and_right x.what.write (eqb x.what.word w && covers x.what.lanes l) e))) (and_right (eqb x.what.word w) (covers x.what.lanes l) (and_right x.what.write (eqb x.what.word w && covers x.what.lanes l) e))) in
     ap (left_in f (suc k) rest w l) head ∙ left_none f (suc k) rest w l v (λ i j a at e. h (suc i) j a at (omega arith))
 
 -- the last chosen write of a word is what it holds
-pub left_last : (f : ℕ → Operation → Bool) (k p : ℕ) (xs : List Operation) (w l v : ℕ) (a : Operation) → get_elem? xs p ≡ some a → a.write ≡ true → a.word ≡ w → covers a l ≡ true
+pub left_last : (f : ℕ → Operation → Bool) (k p : ℕ) (xs : List Operation) (w l v : ℕ) (a : Operation) → get_elem? xs p ≡ some a → a.what.write ≡ true → a.what.word ≡ w → covers a.what.lanes l ≡ true
     → ((j : ℕ) → j ≡ k + p → f j a ≡ true)
-    → ((i j : ℕ) (b : Operation) → p < i → get_elem? xs i ≡ some b → j ≡ k + i → b.write ≡ true → b.word ≡ w → covers b l ≡ true → f j b ≡ false)
-    → left_in f k xs w l v ≡ lane l a.value
+    → ((i j : ℕ) (b : Operation) → p < i → get_elem? xs i ≡ some b → j ≡ k + i → b.what.write ≡ true → b.what.word ≡ w → covers b.what.lanes l ≡ true → f j b ≡ false)
+    → left_in f k xs w l v ≡ lane l a.what.value
 left_last f k p [] w l v a e is on cov here later = absurd (some-ne-none a (sym e))
 left_last f k zero (x ∷ rest) w l v a e is on cov here later =
     let same : x ≡ a = some-injective x a e in
     let chosen : f k x ≡ true = ap (f k) same ∙ here k (omega arith) in
-    let t : (x.write && (eqb x.word w && covers x l)) ≡ true = and_true x.write (eqb x.word w && covers x l) (ap (λ (z : Operation). z.write) same ∙ is) (and_true (eqb x.word w) (covers x l) (eq-eqb x.word w (ap (λ (z : Operation). z.word) same ∙ on)) (ap (λ (z : Operation). covers z l) same ∙ cov)) in
-    let head : (if f k x && (x.write && (eqb x.word w && covers x l)) then lane l x.value else v) ≡ lane l x.value = ap (λ (b : Bool). if b then lane l x.value else v) (and_true (f k x) (x.write && (eqb x.word w && covers x l)) chosen t) in
-    ap (left_in f (suc k) rest w l) head ∙ (left_none f (suc k) rest w l (lane l x.value) (λ i j b at e'. later (suc i) j b (omega arith) at (omega arith)) ∙ ap (λ (z : Operation). lane l z.value) same)
+    let t : (x.what.write && (eqb x.what.word w && covers x.what.lanes l)) ≡ true = and_true x.what.write (eqb x.what.word w && covers x.what.lanes l) (ap (λ (z : Operation). z.what.write) same ∙ is) (and_true (eqb x.what.word w) (covers x.what.lanes l) (eq-eqb x.what.word w (ap (λ (z : Operation). z.what.word) same ∙ on)) (ap (λ (z : Operation). covers z.what.lanes l) same ∙ cov)) in
+    let head : (if f k x && (x.what.write && (eqb x.what.word w && covers x.what.lanes l)) then lane l x.what.value else v) ≡ lane l x.what.value = ap (λ (b : Bool). if b then lane l x.what.value else v) (and_true (f k x) (x.what.write && (eqb x.what.word w && covers x.what.lanes l)) chosen t) in
+    ap (left_in f (suc k) rest w l) head ∙ (left_none f (suc k) rest w l (lane l x.what.value) (λ i j b at e'. later (suc i) j b (omega arith) at (omega arith)) ∙ ap (λ (z : Operation). lane l z.what.value) same)
 left_last f k (suc p) (x ∷ rest) w l v a e is on cov here later =
-    left_last f (suc k) p rest w l (if f k x && (x.write && (eqb x.word w && covers x l)) then lane l x.value else v) a e is on cov (λ j s. here j (omega arith)) (λ i j b lt at s. later (suc i) j b (omega arith) at (omega arith))
+    left_last f (suc k) p rest w l (if f k x && (x.what.write && (eqb x.what.word w && covers x.what.lanes l)) then lane l x.what.value else v) a e is on cov (λ j s. here j (omega arith)) (λ i j b lt at s. later (suc i) j b (omega arith) at (omega arith))

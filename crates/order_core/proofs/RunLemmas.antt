@@ -1,6 +1,7 @@
 -- Runs of steps: their parts, and what two runs of the same steps share.
 use Rattle.std.proofs.Common.{◌≡◌, ℕ, zero, suc, ◌+◌, ◌<◌, ◌≤◌, true, false, List, [], ◌∷◌, length, get_or, take, Some, None, slice_get, refl, sym, ap, ◌∙◌, subst, inl, inr, arith, lt_of_not-le}
 use Rattle.std.proofs.Math.Seq.{take-length}
+use Rattle.std.specs.Prelude.{◌⊎◌, Result, Ok, Err, IsErrAnd, MatchResult}
 use mathlib.Core.Option.{some-injective}
 use mathlib.Core.Logic.{dite}
 use native.Mathlib.Decide.{ℕ_discrete, dec_le}
@@ -9,6 +10,9 @@ use Rattle.order_core.specs.declared.course.Operation.{Operation}
 use Rattle.order_core.specs.declared.steps.Act.{Act}
 use Rattle.order_core.specs.declared.steps.Act.TheVariants.{See, Advertise, Perform}
 use Rattle.order_core.specs.declared.steps.CoreStep.{CoreStep}
+use Rattle.order_core.specs.declared.refused.CoreRefused.{CoreRefused}
+use Rattle.order_core.specs.declared.refused.CoreRefused.TheVariants.{NotAble, NoMemory}
+use Rattle.order_core.specs.declared.state.CoreState.{CoreState}
 use Rattle.order_core.specs.Course.{At}
 use Rattle.order_core.specs.Core.{Core, IsPassed, MayWrite, MayRead, put, opening_core}
 use Rattle.order_core.specs.Lawful.{InOrder, IsName}
@@ -21,6 +25,11 @@ pub get_there : {A : Type 0} (xs : List A) (i : ℕ) (d : A) → i < length xs �
 get_there [] i d l = absurd (omega arith)
 get_there (x ∷ xs) zero d l = refl
 get_there (x ∷ xs) (suc i) d l = get_there xs i d (omega arith)
+
+-- an error that names a step names any that is the same
+pub refused_at : (r : Result CoreState CoreRefused) (i j : ℕ) → IsErrAnd r (λ e. e ≡ NotAble i) → i ≡ j → MatchResult r (λ _. ⊥) (λ e. (e ≡ NotAble j) ⊎ (e ≡ NoMemory))
+refused_at (Ok s) i j is same = is
+refused_at (Err e) i j is same = inl (is ∙ ap (λ (z : ℕ). NotAble z) same)
 
 -- two states of the core that differ in their words alone
 record Alike (k m : Core) : Type 0 where
@@ -100,10 +109,10 @@ module _ (c : Course) where
         (record { written = λ i. put (e.written i) (hart i) (e.written i (hart i) + 1); progress = e.progress; seen = e.seen })
     alike_after h k m (Perform number op) k' m' e (p, a, s, inl w) (q, b, t, inr v) =
         let same : a ≡ b = same_op p q a b h number op w.0.0 v.0.0 s t in
-        absurd (let f : true ≡ false = sym w.0.1 ∙ (ap (λ (z : Operation). z.write) same ∙ v.0.1) in cc)
+        absurd (let f : true ≡ false = sym w.0.1 ∙ (ap (λ (z : Operation). z.what.write) same ∙ v.0.1) in cc)
     alike_after h k m (Perform number op) k' m' e (p, a, s, inr w) (q, b, t, inl v) =
         let same : a ≡ b = same_op p q a b h number op w.0.0 v.0.0 s t in
-        absurd (let f : false ≡ true = sym w.0.1 ∙ (ap (λ (z : Operation). z.write) same ∙ v.0.1) in cc)
+        absurd (let f : false ≡ true = sym w.0.1 ∙ (ap (λ (z : Operation). z.what.write) same ∙ v.0.1) in cc)
     alike_after h k m (Perform number op) k' m' e (p, a, s, inr w) (q, b, t, inr v) =
         subst (λ (z : Core × Core). Alike z.0 z.1) (λ i. (sym w.1 i, sym v.1 i)) e
 

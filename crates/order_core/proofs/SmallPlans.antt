@@ -44,7 +44,7 @@ pub lanes_apart : (h n i g m k v w : ℕ) → Clash (operation_of h n i (write 9
 unfolding covers
 lanes_apart h n i g m k v w clash = lane_apart clash.0.1 clash.0.2 clash.0.3
 
-pub reads_apart : (a b : Operation) → a.write ≡ false → b.write ≡ false → Clash a b → ⊥
+pub reads_apart : (a b : Operation) → a.what.write ≡ false → b.what.write ≡ false → Clash a b → ⊥
 reads_apart a b x y (on, inl w) = absurd (let f : true ≡ false = sym w ∙ x in cc)
 reads_apart a b x y (on, inr w) = absurd (let f : true ≡ false = sym w ∙ y in cc)
 
@@ -56,7 +56,7 @@ on_paths c all p q a b x y = each (λ q b. p < q → a.hart ≢ b.hart → Clash
     (each (λ p a. AllFrom (λ q b. p < q → a.hart ≢ b.hart → Clash a b → Path (Into c.log.lines) a.hart a.number b.hart b.number) 0 c.operations) c.operations all p a x) q b y
 
 abbrev pub HasValue : Course → ℕ → Operation → Type 0
-HasValue c p a = a.write ≡ false → (j : ℕ) → j < 4 → covers a j ≡ true → lane j a.value ≡ left_in (before p) 0 c.operations a.word j (lane j (slice_index c.opening a.word))
+HasValue c p a = a.what.write ≡ false → (j : ℕ) → j < 4 → covers a.what.lanes j ≡ true → lane j a.what.value ≡ left_in (before p) 0 c.operations a.what.word j (lane j (slice_index c.opening a.what.word))
 
-pub no_value : (c : Course) (p : ℕ) (a : Operation) → a.write ≡ true → HasValue c p a
+pub no_value : (c : Course) (p : ℕ) (a : Operation) → a.what.write ≡ true → HasValue c p a
 no_value c p a w r = absurd (let f : true ≡ false = sym w ∙ r in cc)

@@ -8,10 +8,11 @@ use Rattle.order_core.specs.declared.steps.CoreStep.{CoreStep}
 use Rattle.order_core.specs.declared.steps.Act.{Act}
 use Rattle.order_core.specs.declared.steps.Act.TheVariants.{See, Advertise, Perform}
 use Rattle.order_core.specs.Lanes.{lane}
-use Rattle.order_core.specs.Course.{rank, length_of, writes_of}
+use Rattle.order_core.specs.Course.{rank, last_lane, length_of, writes_of}
 use Rattle.order_core.specs.Lawful.{IsLawful}
-use Rattle.order_core.specs.Core.{Core, done_by, Stands, IsFinished, last_lane, MayRead, MayWrite, put, after_see, after_advertise, after_write, opening_core}
-use Rattle.order_core.specs.Runs.{Makes, Performs, Runs, IsReached, MovesAlong, LeavesRead, StaysAllowed, most_moves}
+use Rattle.order_core.specs.Core.{Core, done_by, IsConsistent, IsFinished, IsOpen, MayRead, MayWrite, put, after_see, after_advertise, after_write, opening_core}
+use Rattle.order_core.specs.Runs.{Makes, Performs, Runs, IsReached, MovesAlong, LeavesRead, StaysOpen, most_moves}
+use Rattle.order_core.specs.Outcomes.{HasMove}
 use Rattle.order_core.proofs.Ranks.{put_here, put_else, left_same}
 use Rattle.order_core.proofs.Keeps.{reads, writes, advertises, looks, opens}
 use Rattle.order_core.proofs.Words.{landed, lands}
@@ -25,21 +26,21 @@ record Same (h : ℕ) (k k' : Core) : Type 0 where
   seen : k'.seen h ≡ k.seen h
 
 module _ (c : Course) (law : IsLawful c) where
-  -- a state that stands, and whose harts have performed no more writes than they have
+  -- a consistent state, whose harts have performed no more writes than they have
   abbrev pub Fits : Core → Type 0
-  Fits k = Stands c k × ((h : ℕ) → k.written h ≤ writes_of c h)
+  Fits k = IsConsistent c k × ((h : ℕ) → k.written h ≤ writes_of c h)
 
-  own_write : (h p : ℕ) (a : Operation) (k : Core) → MayWrite c h (k.written h) (k.seen h) p a → MayWrite c a.hart (k.written a.hart) (k.seen a.hart) p a
+  pub own_write : (h p : ℕ) (a : Operation) (k : Core) → MayWrite c h (k.written h) (k.seen h) p a → MayWrite c a.hart (k.written a.hart) (k.seen a.hart) p a
   own_write h p a k w = subst (λ (z : ℕ). MayWrite c z (k.written z) (k.seen z) p a) (sym w.2) w
 
-  perform_stands : (h : ℕ) (k : Core) (p : ℕ) (a : Operation) (k' : Core) → Stands c k → Performs c h k p a k' → Stands c k'
-  perform_stands h k p a k' st (inl w) = subst (Stands c) (sym w.3) (writes c law k st p a (own_write h p a k w.0) w.1 w.2)
-  perform_stands h k p a k' st (inr r) = subst (Stands c) (sym r.1) st
+  perform_consistent : (h : ℕ) (k : Core) (p : ℕ) (a : Operation) (k' : Core) → IsConsistent c k → Performs c h k p a k' → IsConsistent c k'
+  perform_consistent h k p a k' st (inl w) = subst (IsConsistent c) (sym w.3) (writes c law k st p a (own_write h p a k w.0) w.1 w.2)
+  perform_consistent h k p a k' st (inr r) = subst (IsConsistent c) (sym r.1) st
 
-  pub one_step : (h : ℕ) (k : Core) (s : Act) (k' : Core) → Stands c k → Makes c k h s k' → Stands c k'
-  one_step h k (See of) k' st m = subst (Stands c) (sym m.1) (looks c law k st h of)
-  one_step h k (Advertise upto) k' st m = subst (Stands c) (sym m.1) (advertises c law k st h upto m.0.1 m.0.2)
-  one_step h k (Perform number op) k' st m = perform_stands h k m.0 m.1 k' st m.3
+  pub one_step : (h : ℕ) (k : Core) (s : Act) (k' : Core) → IsConsistent c k → Makes c k h s k' → IsConsistent c k'
+  one_step h k (See of) k' st m = subst (IsConsistent c) (sym m.1) (looks c law k st h of)
+  one_step h k (Advertise upto) k' st m = subst (IsConsistent c) (sym m.1) (advertises c law k st h upto m.0.1 m.0.2)
+  one_step h k (Perform number op) k' st m = perform_consistent h k m.0 m.1 k' st m.3
 
   count_write : (h : ℕ) (k : Core) (p : ℕ) (a : Operation) → ((v : ℕ) → k.written v ≤ writes_of c v) → MayWrite c a.hart (k.written a.hart) (k.seen a.hart) p a → (v : ℕ) → put k.written a.hart (k.written a.hart + 1) v ≤ writes_of c v
   count_write h k p a all w v = dite (ℕ_discrete v a.hart)
@@ -67,11 +68,11 @@ module _ (c : Course) (law : IsLawful c) where
   pub reached_fits : (ss : List CoreStep) (k : Core) → IsReached c ss k → Fits k
   reached_fits ss k r = whole (opening_core c) ss k (opens c law, λ h. omega arith) r
 
-  pub reached_stands : (ss : List CoreStep) (k : Core) → IsReached c ss k → Stands c k
-  reached_stands ss k r = (reached_fits ss k r).0
+  pub reached_consistent : (ss : List CoreStep) (k : Core) → IsReached c ss k → IsConsistent c k
+  reached_consistent ss k r = (reached_fits ss k r).0
 
   -- at the end all writes are performed
-  pub finished_words : (k : Core) → Stands c k → IsFinished c k → (w j : ℕ) → 9 ≤ w → w < length c.opening → j < 4 → lane j (k.word w) ≡ last_lane c w j
+  pub finished_words : (k : Core) → IsConsistent c k → IsFinished c k → (w j : ℕ) → 9 ≤ w → w < length c.opening → j < 4 → lane j (k.word w) ≡ last_lane c w j
   finished_words k st end w j low high four = st.0.words w j low high four
       ∙ left_same (done_by c k.written) (λ p a. true) 0 c.operations w j (lane j (slice_index c.opening w))
       (λ i q a at e wr on cov. let inside = law.inside i a at in
@@ -90,24 +91,24 @@ module _ (c : Course) (law : IsLawful c) where
       by (inr r) = subst (λ (z : Core). Same h k z) (sym r.1) (record { written = refl; progress = refl; seen = refl })
 
   abbrev ReadAt : ℕ → ℕ → Operation → Core → Type 0
-  ReadAt h p a k = MayRead c h (k.written h) (k.progress h) (k.seen h) p a
+  ReadAt h p a k = IsOpen c k h p a
 
   -- what a read that is allowed before and after a step finds is the plan's value both times
-  stays : (h p : ℕ) (a : Operation) (k k' : Core) → Stands c k → Stands c k' → ReadAt h p a k → ReadAt h p a k' → StaysAllowed c h p a k k'
+  stays : (h p : ℕ) (a : Operation) (k k' : Core) → IsConsistent c k → IsConsistent c k' → ReadAt h p a k → ReadAt h p a k' → StaysOpen c h p a k k'
   stays h p a k k' st st' r r' = (r', λ j four cov. reads c law k' st' h p a r' j four cov ∙ sym (reads c law k st h p a r j four cov))
 
-  pub read_after_other : (h p : ℕ) (a : Operation) (k : Core) → Stands c k → ReadAt h p a k → (s : CoreStep) (k' : Core) → Makes c k s.hart s.act k' → s.hart ≢ h → StaysAllowed c h p a k k'
+  pub read_after_other : (h p : ℕ) (a : Operation) (k : Core) → IsConsistent c k → ReadAt h p a k → (s : CoreStep) (k' : Core) → Makes c k s.hart s.act k' → s.hart ≢ h → StaysOpen c h p a k k'
   read_after_other h p a k st r s k' m ne = stays h p a k k' st (one_step s.hart k s.act k' st m) r
       (let e = other_step h s.hart k s.act k' ne m in
       subst (λ (z : ℕ × ℕ × (ℕ → ℕ)). MayRead c h z.0 z.1 z.2 p a) (λ i. (sym e.written i, sym e.progress i, sym e.seen i)) r)
 
-  sees_up : (k : Core) (h of : ℕ) → Stands c k → (u : ℕ) → k.seen h u ≤ put k.seen h (put (k.seen h) of (k.progress of)) h u
+  sees_up : (k : Core) (h of : ℕ) → IsConsistent c k → (u : ℕ) → k.seen h u ≤ put k.seen h (put (k.seen h) of (k.progress of)) h u
   sees_up k h of st u = subst (λ (f : ℕ → ℕ). k.seen h u ≤ f u) (sym (put_here k.seen h (put (k.seen h) of (k.progress of))))
       (dite (ℕ_discrete u of)
       (λ e. subst (λ (z : ℕ). k.seen h z ≤ put (k.seen h) of (k.progress of) z) (sym e) (let n : put (k.seen h) of (k.progress of) of ≡ k.progress of = put_here (k.seen h) of (k.progress of) in let o : k.seen h of ≤ k.progress of = st.1.seen h of in omega arith))
       (λ e. let n : put (k.seen h) of (k.progress of) u ≡ k.seen h u = put_else (k.seen h) of u (k.progress of) e in omega arith))
 
-  own_step : (h p : ℕ) (a : Operation) (k : Core) → Stands c k → ReadAt h p a k → (s : Act) (k' : Core) → Makes c k h s k' → LeavesRead c h a s → ReadAt h p a k'
+  own_step : (h p : ℕ) (a : Operation) (k : Core) → IsConsistent c k → ReadAt h p a k → (s : Act) (k' : Core) → Makes c k h s k' → LeavesRead c h a s → ReadAt h p a k'
   own_step h p a k st r (See of) k' m leaves = subst (ReadAt h p a) (sym m.1) (read_after_see c h p a (k.written h) (k.progress h) (k.seen h) (put k.seen h (put (k.seen h) of (k.progress of)) h) (sees_up k h of st) r)
   own_step h p a k st r (Advertise upto) k' m leaves = subst (ReadAt h p a) (sym m.1) (r.0, r.1, r.2, r.3, (let n : put k.progress h upto h ≡ upto = put_here k.progress h upto in let l : upto < a.number = leaves in omega arith), r.5)
   own_step h p a k st r (Perform number op) k' m leaves = by m.3
@@ -118,14 +119,10 @@ module _ (c : Course) (law : IsLawful c) where
           (read_after_write c h p m.0 a m.1 (k.written h) (k.progress h) (k.seen h) r w.0.0 w.0.1 w.0.2 w.0.3 (leaves m.0 m.1 w.0.0 m.2 w.0.1)))
       by (inr q) = subst (ReadAt h p a) (sym q.1) r
 
-  pub read_after_own : (h p : ℕ) (a : Operation) (k : Core) → Stands c k → ReadAt h p a k → (s : CoreStep) (k' : Core) → Makes c k s.hart s.act k' → s.hart ≡ h → LeavesRead c h a s.act → StaysAllowed c h p a k k'
+  pub read_after_own : (h p : ℕ) (a : Operation) (k : Core) → IsConsistent c k → ReadAt h p a k → (s : CoreStep) (k' : Core) → Makes c k s.hart s.act k' → s.hart ≡ h → LeavesRead c h a s.act → StaysOpen c h p a k k'
   read_after_own h p a k st r s k' m e leaves = stays h p a k k' st (one_step s.hart k s.act k' st m) r (own_step h p a k st r s.act k' (subst (λ (z : ℕ). Makes c k z s.act k') e m) leaves)
 
-  -- a state that is not finished can change
-  abbrev pub HasMove : Core → Type 0
-  HasMove k = (s : CoreStep) × (k' : Core) × Makes c k s.hart s.act k' × (k' ≢ k)
-
-  pub moving : (k : Core) → Mover c k → HasMove k
+  pub moving : (k : Core) → Mover c k → HasMove c k
   moving k (sees_more h u low other apart up) = (
     record { hart = h; act = See u },
     after_see k h u,
@@ -142,12 +139,12 @@ module _ (c : Course) (law : IsLawful c) where
   )
   moving k (writes_more h p a may) = (
     record { hart = h; act = Perform a.number a.op },
-    after_write k a (landed a (k.word a.word)),
-    (p, a, (may.2, refl, refl), inl (may, landed a (k.word a.word), lands a (k.word a.word), refl)),
+    after_write k a (landed a.what (k.word a.what.word)),
+    (p, a, (may.2, refl, refl), inl (may, landed a.what (k.word a.what.word), lands a.what (k.word a.what.word), refl)),
     λ e. let n : put k.written a.hart (k.written a.hart + 1) a.hart ≡ k.written a.hart = ap (λ (z : Core). z.written a.hart) e in let x : put k.written a.hart (k.written a.hart + 1) a.hart ≡ k.written a.hart + 1 = put_here k.written a.hart (k.written a.hart + 1) in omega arith,
   )
 
-  pub can_change : (k : Core) → Stands c k → (IsFinished c k → ⊥) → HasMove k
+  pub can_change : (k : Core) → IsConsistent c k → (IsFinished c k → ⊥) → HasMove c k
   can_change k st unfinished = moving k (⊎_elim
       (λ (all : (h : ℕ) → h < c.log.harts → k.progress h ≡ length_of c h). absurd (unfinished all))
       (λ (t : (h : ℕ) × (h < c.log.harts) × (k.progress h < length_of c h)). can_move c law k st t.0 t.2)
@@ -161,7 +158,7 @@ module _ (c : Course) (law : IsLawful c) where
       at : (u : ℕ) → put f h x u ≡ f u
       at u = dite (ℕ_discrete u h) (λ s. subst (λ (z : ℕ). put f h x z ≡ f z) (sym s) (put_here f h x ∙ e)) (λ n. put_else f h u x n)
 
-  raises : (h : ℕ) (k : Core) (s : Act) (k' : Core) → Stands c k → Makes c k h s k' → k' ≢ k → height c k < height c k'
+  raises : (h : ℕ) (k : Core) (s : Act) (k' : Core) → IsConsistent c k → Makes c k h s k' → k' ≢ k → height c k < height c k'
   raises h k (See of) k' st m ne = subst (λ (z : Core). height c k < height c z) (sym m.1)
       (see_raises c k h of m.0.0 m.0.1 m.0.2 (let o : k.seen h of ≤ k.progress of = st.1.seen h of in
       let n : k.progress of ≡ k.seen h of → ⊥ = λ e. ne (m.1 ∙ ap (λ (f : ℕ → ℕ → ℕ). record k { seen = f }) (put_same k.seen h (put (k.seen h) of (k.progress of)) (put_same (k.seen h) of (k.progress of) e))) in omega arith))

@@ -1,5 +1,5 @@
 -- The operations of a run in executed order, and what they leave in the words.
-use Rattle.std.specs.Prelude.{◌≡◌, ℕ, zero, suc, ◌+◌, Bool, true, ◌&&◌, nat_lt, ◌==◌, ◌⊎◌, List, [], ◌∷◌, ◌++◌, length, if◌then◌else◌}
+use Rattle.std.specs.Prelude.{◌≡◌, ℕ, zero, suc, ◌+◌, Bool, true, ◌&&◌, nat_lt, ◌==◌, ◌⊎◌, List, [], ◌∷◌, ◌++◌, length, slice_index, if◌then◌else◌}
 use mathlib.Core.Option.{some}
 use lib.ListN.{get_elem?}
 use Rattle.pl_event.specs.declared.log.Line.{Line}
@@ -11,8 +11,15 @@ use Rattle.order_core.specs.declared.course.Op.{Op}
 use Rattle.order_core.specs.declared.course.Operation.{Operation}
 use Rattle.order_core.specs.Lanes.{lane, covers, Meets}
 
+-- what a plan says: the log of a run, the words of the table at its start, and the operations of each hart's each record
+pub record Planned : Type 0 where
+  pub log : Log
+  pub opening : List ℕ
+  pub operations : ℕ → ℕ → List Op
+
+-- operation i of record m of hart h
 abbrev pub operation_of : ℕ → ℕ → ℕ → Op → Operation
-operation_of h m i o = record { hart = h; number = m; op = i; word = o.word; lanes = o.lanes; write = o.write; check = o.check; value = o.value }
+operation_of h m i o = record { hart = h; number = m; op = i; what = o }
 
 -- the operations of record m of hart h, numbered from i
 abbrev pub tagged : ℕ → ℕ → ℕ → List Op → List Operation
@@ -27,9 +34,9 @@ operations_from ops lines i (line ∷ rest) =
     let m = records_before h lines i + 1 in
     tagged h m 0 (ops h m) ++ operations_from ops lines (suc i) rest
 
--- a log with its operations, given for each record, and opening words
-abbrev pub course_of : Log → List ℕ → (ℕ → ℕ → List Op) → Course
-course_of log opening ops = record { log = log; operations = operations_from ops log.lines 0 log.lines; opening = opening }
+-- the operations of a plan laid out in executed order
+abbrev pub course_of : Planned → Course
+course_of plan = record { log = plan.log; operations = operations_from plan.operations plan.log.lines 0 plan.log.lines; opening = plan.opening }
 
 -- the operation at position p of the executed order
 abbrev pub At : Course → ℕ → Operation → Type 0
@@ -37,10 +44,10 @@ At c p a = get_elem? c.operations p ≡ some a
 
 -- both touch a lane of one word, and one is a write
 abbrev pub Clash : Operation → Operation → Type 0
-Clash a b = Meets a b × ((a.write ≡ true) ⊎ (b.write ≡ true))
+Clash a b = Meets a.what b.what × ((a.what.write ≡ true) ⊎ (b.what.write ≡ true))
 
 abbrev pub is_write_of : ℕ → Operation → Bool
-is_write_of h a = a.write && (a.hart == h)
+is_write_of h a = a.what.write && (a.hart == h)
 
 -- how many of the first p operations are writes of hart h
 abbrev pub rank : ℕ → List Operation → ℕ → ℕ
@@ -55,11 +62,23 @@ writes_of c h = rank h c.operations (length c.operations)
 -- what the chosen writes leave in lane j of word w, which held v. The list begins at position k
 abbrev pub left_in : (ℕ → Operation → Bool) → ℕ → List Operation → ℕ → ℕ → ℕ → ℕ
 left_in chosen k [] w j v = v
-left_in chosen k (a ∷ rest) w j v = left_in chosen (suc k) rest w j (if chosen k a && (a.write && ((a.word == w) && covers a j)) then lane j a.value else v)
+left_in chosen k (a ∷ rest) w j v = left_in chosen (suc k) rest w j (if chosen k a && (a.what.write && ((a.what.word == w) && covers a.what.lanes j)) then lane j a.what.value else v)
+
+-- what the chosen writes of the run leave in lane j of word w
+abbrev pub left_by : Course → (ℕ → Operation → Bool) → ℕ → ℕ → ℕ
+left_by c chosen w j = left_in chosen 0 c.operations w j (lane j (slice_index c.opening w))
 
 -- all operations before position p
 abbrev pub before : ℕ → ℕ → Operation → Bool
 before p q a = nat_lt q p
+
+-- lane j of word w before the operation at position p of the sequential run
+abbrev pub lane_before : Course → ℕ → ℕ → ℕ → ℕ
+lane_before c p w j = left_by c (before p) w j
+
+-- lane j of word w at the end of the sequential run
+abbrev pub last_lane : Course → ℕ → ℕ → ℕ
+last_lane c w j = left_by c (λ p a. true) w j
 
 -- how many records a hart has
 abbrev pub length_of : Course → ℕ → ℕ

@@ -1,42 +1,71 @@
 -- What a plan keeps.
-use Rattle.std.specs.Prelude.{◌≡◌, ◌≢◌, ℕ, ◌^◌, ◌<◌, ◌≤◌, ◌⊎◌, true, false, length, slice_index}
+use Rattle.std.specs.Prelude.{◌≡◌, ◌≢◌, ℕ, ◌^◌, ◌<◌, ◌≤◌, ◌⊎◌, true, false, List, length, Some, slice_index, slice_get}
 use Rattle.pl_event.specs.Graph.{Path}
-use Rattle.pl_event.specs.Edges.{Into, IsFlow}
+use Rattle.pl_event.specs.Edges.{Into}
 use Rattle.pl_event.specs.Conflicts.{IsOrdered}
+use Rattle.pl_event.specs.Runs.{IsRunLog}
 use Rattle.order_core.specs.declared.course.Course.{Course}
+use Rattle.order_core.specs.declared.course.Op.{Op}
 use Rattle.order_core.specs.declared.course.Operation.{Operation}
 use Rattle.order_core.specs.Lanes.{lane, covers}
-use Rattle.order_core.specs.Course.{At, Clash, left_in, before, length_of}
+use Rattle.order_core.specs.Course.{At, Clash, Planned, course_of, lane_before, length_of}
 
 -- operation i of record n of hart h
 abbrev pub IsName : ℕ → ℕ → ℕ → Operation → Type 0
 IsName h n i a = (a.hart ≡ h) × (a.number ≡ n) × (a.op ≡ i)
 
--- the operation is of a record of the run, on a word from 9 on, and names one to four lanes
+-- the operation is on a word from 9 on of so many, and names one to four lanes
+pub record IsSoundOp (words : ℕ) (o : Op) : Type 0 where
+  pub low : 9 ≤ o.word
+  pub high : o.word < words
+  pub lanes : (1 ≤ o.lanes) × (o.lanes ≤ 15)
+
+-- the operation is one of the first 2^32 - 1 of a record of the run
 pub record IsInside (c : Course) (a : Operation) : Type 0 where
   pub hart : a.hart < c.log.harts
   pub from_one : 1 ≤ a.number
   pub number : a.number ≤ length_of c a.hart
   pub op : a.op < 4294967295
-  pub low : 9 ≤ a.word
-  pub high : a.word < length c.opening
-  pub lanes : (1 ≤ a.lanes) × (a.lanes ≤ 15)
+  pub what : IsSoundOp (length c.opening) a.what
 
--- the operations of a hart stand in the order of its records, and of a record in the order of their numbers, with no gap
+-- the operations of a hart are in the order of its records, and of a record in the order of their numbers, with no gap
 pub record InOrder (c : Course) : Type 0 where
   pub order : (p q : ℕ) (a b : Operation) → At c p a → At c q b → p < q → a.hart ≡ b.hart → (a.number < b.number) ⊎ ((a.number ≡ b.number) × (a.op < b.op))
   pub dense : (p : ℕ) (a : Operation) (i : ℕ) → At c p a → i < a.op → (q : ℕ) × (b : Operation) × At c q b × IsName a.hart a.number i b
 
--- the laws on numbers, on the log, on values and on paths
+-- each read's value is, in its lanes, what the operations before it leave there
+abbrev pub HasValues : Course → Type 0
+HasValues c = (p : ℕ) (a : Operation) → At c p a → a.what.write ≡ false → (j : ℕ) → j < 4 → covers a.what.lanes j ≡ true
+    → lane j a.what.value ≡ lane_before c p a.what.word j
+
+-- a path leads from the earlier to the later of two clashing operations of different harts
+abbrev pub HasPaths : Course → Type 0
+HasPaths c = (p q : ℕ) (a b : Operation) → At c p a → At c q b → p < q → a.hart ≢ b.hart → Clash a b
+    → Path (Into c.log.lines) a.hart a.number b.hart b.number
+
+-- the number of words is from 9 to 2^32 - 1, and words 0 to 8 are 0
+pub record IsTable (opening : List ℕ) : Type 0 where
+  pub size : (9 ≤ length opening) × (length opening < 2 ^ 32)
+  pub zeros : (w : ℕ) → w < 9 → slice_index opening w ≡ 0
+
+-- the laws on the log, on the table, on the operations, on values and on paths
 pub record IsLawful (c : Course) : Type 0 where
-  pub harts : (1 ≤ c.log.harts) × (c.log.harts ≤ 8)
-  pub size : (9 ≤ length c.opening) × (length c.opening < 2 ^ 32)
-  pub zeros : (w : ℕ) → w < 9 → slice_index c.opening w ≡ 0
+  pub log : IsRunLog c.log
+  pub few : length c.log.lines < 4294967295
+  pub ordered : IsOrdered c.log
+  pub table : IsTable c.opening
   pub inside : (p : ℕ) (a : Operation) → At c p a → IsInside c a
   pub in_order : InOrder c
-  pub flow : IsFlow c.log.harts c.log.lines
-  pub ordered : IsOrdered c.log
-  -- each read's value is, in its lanes, what the operations before it leave there
-  pub values : (p : ℕ) (a : Operation) → At c p a → a.write ≡ false → (j : ℕ) → j < 4 → covers a j ≡ true → lane j a.value ≡ left_in (before p) 0 c.operations a.word j (lane j (slice_index c.opening a.word))
-  -- a path leads from the earlier to the later of two clashing operations of different harts
-  pub paths : (p q : ℕ) (a b : Operation) → At c p a → At c q b → p < q → a.hart ≢ b.hart → Clash a b → Path (Into c.log.lines) a.hart a.number b.hart b.number
+  pub values : HasValues c
+  pub paths : HasPaths c
+
+-- what is left to be shown of a plan: that its operations are of records of the run and in order holds of each
+pub record IsPlan (plan : Planned) : Type 0 where
+  pub log : IsRunLog plan.log
+  pub few : length plan.log.lines < 4294967295
+  pub ordered : IsOrdered plan.log
+  pub table : IsTable plan.opening
+  pub short : (h m i : ℕ) (o : Op) → slice_get (plan.operations h m) i ≡ Some o → i < 4294967295
+  pub sound : (h m i : ℕ) (o : Op) → slice_get (plan.operations h m) i ≡ Some o → IsSoundOp (length plan.opening) o
+  pub values : HasValues (course_of plan)
+  pub paths : HasPaths (course_of plan)

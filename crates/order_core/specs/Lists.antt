@@ -1,8 +1,10 @@
 -- The operations of a plan that is given by lists.
 use Rattle.std.specs.Prelude.{ℕ, zero, suc, ◌-◌, List, [], ◌∷◌, Vec, Option, Some, None, slice_get}
 use Rattle.std.specs.declared.alloc.Global.{Global}
+use Rattle.pl_event.specs.declared.log.Log.{Log}
 use Rattle.order_core.specs.declared.course.Op.{Op}
 use Rattle.order_core.specs.declared.record_plan.RecordPlan.{RecordPlan}
+use Rattle.order_core.specs.Course.{Planned}
 
 -- the records of a hart
 abbrev pub stream_of : List (Vec RecordPlan Global) → ℕ → List RecordPlan
@@ -17,3 +19,7 @@ ops_of (Some r) = r.operations.items
 -- the operations of record m of a hart, counted from 1
 abbrev pub ops_in : List (Vec RecordPlan Global) → ℕ → ℕ → List Op
 ops_in streams h m = ops_of (slice_get (stream_of streams h) (m - 1))
+
+-- the plan of these lists
+abbrev pub listed : Log → List ℕ → List (Vec RecordPlan Global) → Planned
+listed log opening streams = record { log = log; opening = opening; operations = ops_in streams }

@@ -8,12 +8,12 @@ use Rattle.order_core.specs.declared.steps.CoreStep.{CoreStep}
 use Rattle.order_core.specs.Lanes.{lane, covers, Meets, Lands}
 use Rattle.order_core.specs.Course.{At, length_of, writes_of}
 use Rattle.order_core.specs.Lawful.{IsName}
-use Rattle.order_core.specs.Core.{Core, opening_core, IsPassed, MayRead, MayWrite, after_see, after_advertise, after_write}
+use Rattle.order_core.specs.Core.{Core, opening_core, IsPassed, IsOpen, IsNextWrite, after_see, after_advertise, after_write}
 
 module _ (c : Course) where
   -- hart h may perform the operation at p
   abbrev pub MayPerform : ℕ → Core → ℕ → Operation → Type 0
-  MayPerform h k p a = MayWrite c h (k.written h) (k.seen h) p a ⊎ MayRead c h (k.written h) (k.progress h) (k.seen h) p a
+  MayPerform h k p a = IsNextWrite c k h p a ⊎ IsOpen c k h p a
 
   -- what a hart may do: see another hart of the run, advertise what is neither below its progress word nor above its
   -- cursor, perform the next write, or a read that is neither advertised nor overtaken by the hart's own writes
@@ -24,8 +24,8 @@ module _ (c : Course) where
 
   -- the state k' after hart h performs the operation at p: a write puts its value into its lanes, a read changes nothing
   abbrev pub Performs : ℕ → Core → ℕ → Operation → Core → Type 0
-  Performs h k p a k' = (MayWrite c h (k.written h) (k.seen h) p a × (n : ℕ) × Lands a (k.word a.word) n × (k' ≡ after_write k a n))
-      ⊎ (MayRead c h (k.written h) (k.progress h) (k.seen h) p a × (k' ≡ k))
+  Performs h k p a k' = (IsNextWrite c k h p a × (n : ℕ) × Lands a.what (k.word a.what.word) n × (k' ≡ after_write k a n))
+      ⊎ (IsOpen c k h p a × (k' ≡ k))
 
   -- hart h may do this at k, and k' is the state after it
   abbrev pub Makes : Core → ℕ → Act → Core → Type 0
@@ -51,11 +51,11 @@ module _ (c : Course) where
   abbrev pub LeavesRead : ℕ → Operation → Act → Type 0
   LeavesRead h a (See of) = Unit {0}
   LeavesRead h a (Advertise upto) = upto < a.number
-  LeavesRead h a (Perform number op) = (q : ℕ) (b : Operation) → At c q b → IsName h number op b → b.write ≡ true → Meets b a → ⊥
+  LeavesRead h a (Perform number op) = (q : ℕ) (b : Operation) → At c q b → IsName h number op b → b.what.write ≡ true → Meets b.what a.what → ⊥
 
-  -- the read a may be made at k' too, and finds the same in its lanes
-  abbrev pub StaysAllowed : ℕ → ℕ → Operation → Core → Core → Type 0
-  StaysAllowed h p a k k' = MayRead c h (k'.written h) (k'.progress h) (k'.seen h) p a × ((j : ℕ) → j < 4 → covers a j ≡ true → lane j (k'.word a.word) ≡ lane j (k.word a.word))
+  -- the read stays open, and finds the same in its lanes
+  abbrev pub StaysOpen : ℕ → ℕ → Operation → Core → Core → Type 0
+  StaysOpen h p a k k' = IsOpen c k' h p a × ((j : ℕ) → j < 4 → covers a.what.lanes j ≡ true → lane j (k'.word a.what.word) ≡ lane j (k.word a.what.word))
 
 -- f 0 + .. + f (n - 1)
 abbrev pub total : ℕ → (ℕ → ℕ) → ℕ

@@ -1,4 +1,4 @@
--- Operations whose values come from the words as they stand.
+-- Operations whose values come from the words as they are.
 use Rattle.std.specs.Prelude.{◌≡◌, ℕ, ◌<◌, Bool, true, false, List, [], ◌∷◌, if◌then◌else◌}
 use Rattle.order_core.specs.declared.course.Op.{Op}
 use Rattle.order_core.specs.declared.course.Operation.{Operation}
@@ -29,12 +29,21 @@ abbrev pub after_shapes : (ℕ → ℕ) → List Shape → (ℕ → ℕ)
 after_shapes w [] = w
 after_shapes w (s ∷ ss) = after_shapes (after_shape w s) ss
 
--- a read finds its word as it stands, and a write leaves the lanes that it does not name
+-- a write leaves the lanes that it does not name
+abbrev pub IsFitting : Shape → Type 0
+IsFitting s = s.write ≡ true → (x j : ℕ) → j < 4 → covers s.lanes j ≡ false → lane j (s.change x) ≡ lane j x
+
+abbrev pub AreFitting : List Shape → Type 0
+AreFitting [] = Unit {0}
+AreFitting (s ∷ ss) = IsFitting s × AreFitting ss
+
+-- a read finds its word as it is, and a write leaves the lanes that it does not name
 abbrev pub IsFilled : (ℕ → ℕ) → Operation → Type 0
-IsFilled w a = (a.write ≡ false → a.value ≡ w a.word) × (a.write ≡ true → (j : ℕ) → j < 4 → covers a j ≡ false → lane j a.value ≡ lane j (w a.word))
+IsFilled w a = (a.what.write ≡ false → a.what.value ≡ w a.what.word)
+    × (a.what.write ≡ true → (j : ℕ) → j < 4 → covers a.what.lanes j ≡ false → lane j a.what.value ≡ lane j (w a.what.word))
 
 abbrev pub after_operation : (ℕ → ℕ) → Operation → (ℕ → ℕ)
-after_operation w a = if a.write then put w a.word a.value else w
+after_operation w a = if a.what.write then put w a.what.word a.what.value else w
 
 -- each of the operations, in order, from these words on
 abbrev pub AreFilled : (ℕ → ℕ) → List Operation → Type 0

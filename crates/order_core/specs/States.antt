@@ -43,7 +43,7 @@ pub record IsKept (c : Course) (h : ℕ) (s : HartState) : Type 0 where
   pub from_one : 1 ≤ s.next.number
   pub within : place s.next.number s.next.op ≤ place (length_of c h + 1) 0
   pub count : s.written ≡ writes_before c h s.next.number s.next.op
-  pub there : s.next.number ≤ length_of c h → (p : ℕ) × (a : Operation) × At c p a × IsName h s.next.number s.next.op a × (a.write ≡ true)
+  pub there : s.next.number ≤ length_of c h → (p : ℕ) × (a : Operation) × At c p a × IsName h s.next.number s.next.op a × (a.what.write ≡ true)
 
 -- what is kept of the harts: nothing above a progress word was seen
 pub record AreKept (c : Course) (harts : List HartState) : Type 0 where

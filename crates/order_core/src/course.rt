@@ -1,3 +1,4 @@
+//! Operations of records, and a run of them laid out in executed order.
 use pl_event::Log;
 use std::collections::LinkedList;
 
@@ -11,7 +12,7 @@ pub struct Op {
     pub write: bool,
     /// Whether it is the read of a check.
     pub check: bool,
-    /// What the sequential run has there, in its lanes: what a read finds, or what a write puts.
+    /// What the sequential run has in its lanes: what a read finds, or what a write puts.
     pub value: u64,
 }
 
@@ -21,11 +22,7 @@ pub struct Operation {
     pub hart: u8,
     pub number: u32,
     pub op: u32,
-    pub word: u32,
-    pub lanes: u8,
-    pub write: bool,
-    pub check: bool,
-    pub value: u64,
+    pub what: Op,
 }
 
 /// A run as plain data: its log, its operations in executed order, and the words at its start. No value of it is made.

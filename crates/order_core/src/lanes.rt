@@ -1,6 +1,7 @@
+//! The lanes of a word that operations share and write.
 ghost use Rattle.std.specs.Prelude.{◌≡◌, ℕ, ◌+◌, ◌*◌, ◌/◌, ◌%◌, ◌^◌, ◌<◌, ◌≤◌, ◌==◌, ◌↔◌, IsTrue, if◌then◌else◌};
 ghost use Rattle.order_core.specs.Lanes.{lane, Lands, Meets};
-ghost use Rattle.order_core.specs.Places.{loose, ClashesIf};
+ghost use Rattle.order_core.specs.Places.{ClashesIf};
 
 use crate::course::Op;
 
@@ -36,7 +37,7 @@ fn lane_after(word: u64, value: u64, lanes: u8, j: u8) -> u64
 
 // The word with the write's value in its lanes.
 pub(crate) fn put_lanes(word: u64, op: Op) -> u64
-    ensures { Lands (loose op) word result }
+    ensures { Lands op word result }
 {
     let a = lane_after(word, op.value, op.lanes, 0);
     let b = lane_after(word, op.value, op.lanes, 1);
@@ -48,7 +49,7 @@ pub(crate) fn put_lanes(word: u64, op: Op) -> u64
 // Whether they are on one word and share a lane.
 fn do_meet(op: Op, read: Op) -> bool
     requires { read.lanes ≤ 15 }
-    ensures { IsTrue result ↔ Meets (loose op) (loose read) }
+    ensures { IsTrue result ↔ Meets op read }
 {
     op.word == read.word && share_lane(read.lanes, op.lanes)
 }

@@ -1,33 +1,94 @@
-// What holds of every run of allowed steps, whatever the plan and the order of the steps.
-ghost use Rattle.std.specs.Prelude.{◌≡◌, ◌≢◌, ℕ, ◌<◌, ◌≤◌, true, List, length};
+//! What holds of the core's states, whatever the plan and the order of the steps.
+ghost use Rattle.std.specs.Prelude.{◌≡◌, ℕ, ◌+◌, ◌<◌, ◌≤◌, true, false, List, length};
+ghost use Rattle.pl_event.specs.declared.log.Log.{Log};
+ghost use Rattle.pl_event.specs.Needs.{IsNeed};
 ghost use Rattle.order_core.specs.declared.course.Course.{Course};
+ghost use Rattle.order_core.specs.declared.course.Op.{Op};
 ghost use Rattle.order_core.specs.declared.course.Operation.{Operation};
 ghost use Rattle.order_core.specs.declared.steps.Act.{Act};
 ghost use Rattle.order_core.specs.declared.steps.CoreStep.{CoreStep};
-ghost use Rattle.order_core.specs.Lanes.{lane, covers};
-ghost use Rattle.order_core.specs.Lawful.{IsLawful};
-ghost use Rattle.order_core.specs.Core.{Core, Stands, IsFinished, last_lane, MayRead};
-ghost use Rattle.order_core.specs.Runs.{Makes, IsReached, MovesAlong, LeavesRead, StaysAllowed, most_moves};
+ghost use Rattle.order_core.specs.Lanes.{lane, Lands};
+ghost use Rattle.order_core.specs.Course.{Planned, course_of, operation_of, last_lane, length_of};
+ghost use Rattle.order_core.specs.Lawful.{IsLawful, IsPlan, HasValues};
+ghost use Rattle.order_core.specs.Core.{Core, opening_core, after_write, IsMet, IsCursor};
+ghost use Rattle.order_core.specs.Core.{IsConsistent, IsOpen, IsNextWrite, IsFinished};
+ghost use Rattle.order_core.specs.Runs.{Makes, IsReached};
+ghost use Rattle.order_core.specs.Waits.{WaitsFor};
+ghost use Rattle.order_core.specs.Freed.{HasEnded, after_free};
+ghost use Rattle.order_core.specs.Turns.{HasTurn, IsAt};
+ghost use Rattle.order_core.specs.Outcomes.{ReadsFindValues, WritesFindLanes, ReadsStayOpen, HasLastWords};
+ghost use Rattle.order_core.specs.Outcomes.{HasMove, HasFewMoves};
+ghost use Rattle.order_core.specs.Shapes.{Shape};
+ghost use Rattle.order_core.specs.Filled.{words_after, AllFit, filled_plan};
 
-/// Each allowed step keeps a state closed and its progress sound, so each state of a run is. A read that may be made
-/// finds, in its lanes, the value of the sequential run, and at the end the words are the last ones of that run.
+/// The opening state is consistent, and each allowed step keeps a state so. In a consistent state a read that is open
+/// finds its value, a next write finds what the sequential run has before it, and at the end the words are the last ones
+/// of that run.
 pub fn core_is_sequential()
-    ensures step { (c : Course) → IsLawful c → (k k' : Core) (h : ℕ) (act : Act) → Stands c k → Makes c k h act k' → Stands c k' }
-    ensures stands { (c : Course) → IsLawful c → (steps : List CoreStep) (k : Core) → IsReached c steps k → Stands c k }
-    ensures reads { (c : Course) → IsLawful c → (steps : List CoreStep) (k : Core) → IsReached c steps k → (h p : ℕ) (a : Operation) → MayRead c h (k.written h) (k.progress h) (k.seen h) p a → (j : ℕ) → j < 4 → covers a j ≡ true → lane j (k.word a.word) ≡ lane j a.value }
-    ensures last { (c : Course) → IsLawful c → (steps : List CoreStep) (k : Core) → IsReached c steps k → IsFinished c k → (w j : ℕ) → 9 ≤ w → w < length c.opening → j < 4 → lane j (k.word w) ≡ last_lane c w j }
+    ensures opening { (c : Course) → ∥ IsLawful c ∥₁ → IsConsistent c (opening_core c) }
+    ensures step { (c : Course) → ∥ IsLawful c ∥₁ → (k k' : Core) (h : ℕ) (act : Act) → IsConsistent c k → Makes c k h act k' →
+        IsConsistent c k' }
+    ensures reads { (c : Course) → ∥ IsLawful c ∥₁ → (k : Core) → IsConsistent c k → ReadsFindValues c k }
+    ensures writes { (c : Course) → ∥ IsLawful c ∥₁ → (k : Core) → IsConsistent c k → WritesFindLanes c k }
+    ensures last { (c : Course) → ∥ IsLawful c ∥₁ → (k : Core) → IsConsistent c k → IsFinished c k → HasLastWords c k }
 {}
 
-/// A read that may be made may still be made, and finds the same in its lanes, after each allowed step of another hart,
-/// and after each of its own hart that neither advertises its record nor performs a write that clashes with it.
-pub fn late_reads()
-    ensures others { (c : Course) → IsLawful c → (steps : List CoreStep) (k : Core) → IsReached c steps k → (h p : ℕ) (a : Operation) → MayRead c h (k.written h) (k.progress h) (k.seen h) p a → (s : CoreStep) (k' : Core) → Makes c k s.hart s.act k' → s.hart ≢ h → StaysAllowed c h p a k k' }
-    ensures own { (c : Course) → IsLawful c → (steps : List CoreStep) (k : Core) → IsReached c steps k → (h p : ℕ) (a : Operation) → MayRead c h (k.written h) (k.progress h) (k.seen h) p a → (s : CoreStep) (k' : Core) → Makes c k s.hart s.act k' → s.hart ≡ h → LeavesRead c h a s.act → StaysAllowed c h p a k k' }
+/// A read is open when its hart comes to it. In a consistent state it stays open, and finds the same in its lanes, after
+/// each allowed step of another hart, and after each of its own hart that neither advertises its record nor performs a
+/// write that clashes with it.
+pub fn open_reads()
+    ensures opened { (plan : Planned) → ∥ IsLawful (course_of plan) ∥₁ → (k : Core) (h m i : ℕ) (o : Op) →
+        HasTurn plan k h m i o → o.write ≡ false → (p : ℕ) × IsOpen (course_of plan) k h p (operation_of h m i o) }
+    ensures kept { (c : Course) → ∥ IsLawful c ∥₁ → (k : Core) → IsConsistent c k → ReadsStayOpen c k }
 {}
 
-/// In each state of a run that is not finished some hart may make a step that changes it, and no more steps that change
-/// the state follow each other than there are writes, and for each hart records of the others, and records.
+/// A hart that has come to a write may make it. After an operation it has come to the next one.
+pub fn operations_in_turn()
+    ensures write { (plan : Planned) → ∥ IsLawful (course_of plan) ∥₁ → (k : Core) (h m i : ℕ) (o : Op) →
+        HasTurn plan k h m i o → o.write ≡ true → (p : ℕ) × IsNextWrite (course_of plan) k h p (operation_of h m i o) }
+    ensures after_read { (plan : Planned) → ∥ IsLawful (course_of plan) ∥₁ → (k : Core) (h m i : ℕ) (o : Op) →
+        HasTurn plan k h m i o → o.write ≡ false → IsAt (course_of plan) k h m (i + 1) }
+    ensures after_write { (plan : Planned) → ∥ IsLawful (course_of plan) ∥₁ → (k : Core) (h m i : ℕ) (o : Op) →
+        HasTurn plan k h m i o → o.write ≡ true → (n : ℕ) →
+        IsAt (course_of plan) (after_write k (operation_of h m i o) n) h m (i + 1) }
+{}
+
+/// In each consistent state that is not finished some hart may make a step that changes it. In a run no more steps that
+/// change the state follow each other than there are writes, and for each hart records of the others, and records.
 pub fn never_stuck()
-    ensures moves { (c : Course) → IsLawful c → (steps : List CoreStep) (k : Core) → IsReached c steps k → (IsFinished c k → ⊥) → (s : CoreStep) × (k' : Core) × Makes c k s.hart s.act k' × (k' ≢ k) }
-    ensures bound { (c : Course) → IsLawful c → (steps : List CoreStep) (k : Core) → IsReached c steps k → (more : List CoreStep) (k' : Core) → MovesAlong c k more k' → length more ≤ most_moves c }
+    ensures moves { (c : Course) → ∥ IsLawful c ∥₁ → (k : Core) → IsConsistent c k → (IsFinished c k → ⊥) → ∥ HasMove c k ∥₁ }
+    ensures bound { (c : Course) → ∥ IsLawful c ∥₁ → (steps : List CoreStep) (k : Core) → IsReached c steps k → HasFewMoves c k }
+{}
+
+/// A hart that waits for another has a record next whose needs are not met. Where a hart has advertised all that it has
+/// passed, and waits for no other, the needs of its next record are met.
+pub fn waiting_harts()
+    ensures blocked { (c : Course) (k : Core) (h u need : ℕ) → WaitsFor c k h u need → IsMet c (k.seen h) h (k.progress h + 1) → ⊥ }
+    ensures free { (c : Course) (k : Core) (h : ℕ) → IsCursor c (k.written h) (k.seen h) h (k.progress h) →
+        ((u need : ℕ) → WaitsFor c k h u need → ⊥) → IsMet c (k.seen h) h (k.progress h + 1) }
+{}
+
+/// In a consistent state each need of a hart that has advertised its last record is at most the progress word of the hart
+/// that it names. The state stays consistent where the hart then counts as one that has performed all its writes and seen
+/// each progress word, as it does once its seat is freed.
+pub fn freed_harts()
+    ensures needs { (c : Course) (k : Core) → IsConsistent c k → (h : ℕ) → HasEnded c k h → (u n m : ℕ) →
+        IsNeed c.log.lines u n h m → m ≤ length_of c h → n ≤ k.progress u }
+    ensures freed { (c : Course) → ∥ IsLawful c ∥₁ → (k : Core) → IsConsistent c k → (h : ℕ) → HasEnded c k h →
+        IsConsistent c (after_free c k h) }
+{}
+
+/// That the operations of a plan are of records of its run, and in order, holds of each: the other laws make it lawful.
+pub fn plan_is_lawful()
+    ensures { (plan : Planned) → IsPlan plan → IsLawful (course_of plan) }
+{}
+
+/// Where the operations of each record are filled from the words as they are, each read has its value, and the last words
+/// of the sequential run are the words after the last record.
+pub fn filled_values()
+    ensures values { (shapes : ℕ → (ℕ → ℕ) → List Shape) (log : Log) (opening : List ℕ) →
+        AllFit shapes opening (length log.lines) → HasValues (course_of (filled_plan shapes log opening)) }
+    ensures last { (shapes : ℕ → (ℕ → ℕ) → List Shape) (log : Log) (opening : List ℕ) →
+        AllFit shapes opening (length log.lines) → (w j : ℕ) → j < 4 →
+        last_lane (course_of (filled_plan shapes log opening)) w j ≡ lane j (words_after shapes opening (length log.lines) w) }
 {}

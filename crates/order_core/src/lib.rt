@@ -32,7 +32,10 @@ mod steps;
 mod tests;
 
 pub use course::{Course, Op, Operation};
-pub use laws::{core_is_sequential, late_reads, never_stuck};
+pub use laws::{
+    core_is_sequential, filled_values, freed_harts, never_stuck, open_reads, operations_in_turn,
+    plan_is_lawful, waiting_harts,
+};
 pub use list_plan::ListPlan;
 pub use plan::{Plan, PlanOps};
 pub use record_plan::RecordPlan;

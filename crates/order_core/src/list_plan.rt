@@ -1,9 +1,10 @@
+//! A plan that keeps its records as lists.
 ghost use Rattle.std.specs.Prelude.{◌≡◌, ℕ, ◌+◌, ◌^◌, ◌<◌, Some, length, slice_get};
 ghost use Rattle.pl_event.specs.Records.{records_before};
 ghost use Rattle.pl_event.specs.Needs.{needs_of};
 ghost use Rattle.order_core.specs.Course.{course_of};
 ghost use Rattle.order_core.specs.Lawful.{IsLawful};
-ghost use Rattle.order_core.specs.Lists.{stream_of, ops_in};
+ghost use Rattle.order_core.specs.Lists.{stream_of, listed};
 ghost use Rattle.order_core.specs.declared.record_plan.RecordPlan.{RecordPlan};
 
 use crate::record_plan::RecordPlan;
@@ -15,10 +16,8 @@ pub struct ListPlan {
     pub(crate) log: Log,
     pub(crate) opening: Vec<u64>,
     pub(crate) streams: Vec<Vec<RecordPlan>>,
-    ghost lawful: { ∥ IsLawful (course_of log opening.items (ops_in streams.items)) ∥₁ },
+    ghost lawful: { ∥ IsLawful (course_of (listed log opening.items streams.items)) ∥₁ },
     ghost harts: { length streams.items ≡ log.harts },
     ghost records: { (h : ℕ) → h < log.harts → length (stream_of streams.items h) ≡ records_before h log.lines (length log.lines) },
     ghost needs: { (h m : ℕ) (r : RecordPlan) → h < log.harts → slice_get (stream_of streams.items h) m ≡ Some r → r.needs ≡ needs_of log.lines h (m + 1) },
-    ghost few: { length log.lines < 4294967295 },
-    ghost small: { length opening.items < 2 ^ 32 },
 }

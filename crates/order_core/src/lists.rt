@@ -1,9 +1,10 @@
+//! Making a plan of lists, and what it answers.
 ghost use Rattle.std.specs.Prelude.{◌≡◌, ℕ, ◌+◌, ◌-◌, ◌^◌, ◌<◌, Some, length, slice_get};
 ghost use Rattle.pl_event.specs.Records.{records_before};
 ghost use Rattle.pl_event.specs.Needs.{needs_of};
 ghost use Rattle.order_core.specs.Course.{course_of};
 ghost use Rattle.order_core.specs.Lawful.{IsLawful};
-ghost use Rattle.order_core.specs.Lists.{stream_of, ops_in};
+ghost use Rattle.order_core.specs.Lists.{stream_of, listed};
 
 use crate::course::Op;
 use crate::list_plan::ListPlan;
@@ -16,12 +17,10 @@ impl ListPlan {
 
     /// The plan of this log, these opening words, and for each hart these records.
     pub fn new(log: Log, opening: Vec<u64>, streams: Vec<Vec<RecordPlan>>) -> ListPlan
-        requires lawful { ∥ IsLawful (course_of log opening.items (ops_in streams.items)) ∥₁ }
+        requires lawful { ∥ IsLawful (course_of (listed log opening.items streams.items)) ∥₁ }
         requires harts { length streams.items ≡ log.harts }
         requires records { (h : ℕ) → h < log.harts → length (stream_of streams.items h) ≡ records_before h log.lines (length log.lines) }
         requires needs { (h m : ℕ) (r : RecordPlan) → h < log.harts → slice_get (stream_of streams.items h) m ≡ Some r → r.needs ≡ needs_of log.lines h (m + 1) }
-        requires few { length log.lines < 4294967295 }
-        requires small { length opening.items < 2 ^ 32 }
         ensures log { result.log ≡ log }
         ensures opening { result.opening ≡ opening }
         ensures streams { result.streams ≡ streams }
@@ -35,11 +34,7 @@ impl ListPlan {
 }
 
 impl Plan for ListPlan {
-    ghost log = { λ plan. plan.log };
-
-    ghost opening = { λ plan. plan.opening.items };
-
-    ghost operations = { λ plan. ops_in plan.streams.items };
+    ghost planned = { λ plan. listed plan.log plan.opening.items plan.streams.items };
 
     fn harts(&self) -> u8 {
         self.log.harts
@@ -80,6 +75,4 @@ impl PlanOps for ListPlan {
     fn opening(&self, word: u32) -> Option<u64> {
         self.opening.get(word as usize).copied()
     }
-
-    ghost few = { λ plan. plan.few };
 }

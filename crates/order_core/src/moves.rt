@@ -1,3 +1,4 @@
+//! One step of a hart: whether it is allowed, and the state after it.
 ghost use Rattle.std.specs.Prelude.{◌≡◌, ℕ, ◌+◌, ◌<◌, ◌≤◌, ◌↔◌, ◌^◌, true, false, IsTrue, ◌⊎◌, None, Some, IfSome, length, slice_get};
 ghost use Rattle.order_core.specs.declared.course.Op.{Op};
 ghost use Rattle.order_core.specs.declared.course.Operation.{Operation};
@@ -19,10 +20,10 @@ use crate::steps::{Act, CoreStep};
 
 // A hart sees another.
 fn see<P: PlanOps>(plan: &P, state: &mut CoreState, hart: u8, of: u8) -> bool
-    requires fits { Fits (course_of (P.log plan.now) (P.opening plan.now) (P.operations plan.now)) state.old }
-    ensures fits { result ≡ true → Fits (course_of (P.log plan.now) (P.opening plan.now) (P.operations plan.now)) state.new }
-    ensures made { result ≡ true → Makes (course_of (P.log plan.now) (P.opening plan.now) (P.operations plan.now)) (core_of state.old) hart (See of) (core_of state.new) }
-    ensures refused { result ≡ false → IsAllowed (course_of (P.log plan.now) (P.opening plan.now) (P.operations plan.now)) (core_of state.old) hart (See of) → ⊥ }
+    requires fits { Fits (course_of (P.planned plan.now)) state.old }
+    ensures fits { result ≡ true → Fits (course_of (P.planned plan.now)) state.new }
+    ensures made { result ≡ true → Makes (course_of (P.planned plan.now)) (core_of state.old) hart (See of) (core_of state.new) }
+    ensures refused { result ≡ false → IsAllowed (course_of (P.planned plan.now)) (core_of state.old) hart (See of) → ⊥ }
 {
     if plan.harts() <= hart || plan.harts() <= of || hart == of {
         return false;
@@ -36,10 +37,10 @@ fn see<P: PlanOps>(plan: &P, state: &mut CoreState, hart: u8, of: u8) -> bool
 
 // A hart sets its progress word.
 fn advertise<P: PlanOps>(plan: &P, state: &mut CoreState, hart: u8, upto: u32) -> bool
-    requires fits { Fits (course_of (P.log plan.now) (P.opening plan.now) (P.operations plan.now)) state.old }
-    ensures fits { result ≡ true → Fits (course_of (P.log plan.now) (P.opening plan.now) (P.operations plan.now)) state.new }
-    ensures made { result ≡ true → Makes (course_of (P.log plan.now) (P.opening plan.now) (P.operations plan.now)) (core_of state.old) hart (Advertise upto) (core_of state.new) }
-    ensures refused { result ≡ false → IsAllowed (course_of (P.log plan.now) (P.opening plan.now) (P.operations plan.now)) (core_of state.old) hart (Advertise upto) → ⊥ }
+    requires fits { Fits (course_of (P.planned plan.now)) state.old }
+    ensures fits { result ≡ true → Fits (course_of (P.planned plan.now)) state.new }
+    ensures made { result ≡ true → Makes (course_of (P.planned plan.now)) (core_of state.old) hart (Advertise upto) (core_of state.new) }
+    ensures refused { result ≡ false → IsAllowed (course_of (P.planned plan.now)) (core_of state.old) hart (Advertise upto) → ⊥ }
 {
     if plan.harts() <= hart {
         return false;
@@ -62,8 +63,8 @@ fn advertise<P: PlanOps>(plan: &P, state: &mut CoreState, hart: u8, upto: u32) -
 
 // The operation of this name, where the run has one.
 fn named<P: PlanOps>(plan: &P, hart: u8, number: u32, op: u32) -> Option<Op>
-    ensures none { result ≡ None → (p : ℕ) (a : Operation) → At (course_of (P.log plan.now) (P.opening plan.now) (P.operations plan.now)) p a → IsName hart number op a → ⊥ }
-    ensures some { IfSome result (λ o. (hart < (P.log plan.now).harts) × (1 ≤ number) × (number ≤ length_of (course_of (P.log plan.now) (P.opening plan.now) (P.operations plan.now)) hart) × (slice_get (P.operations plan.now hart number) op ≡ Some o)) }
+    ensures none { result ≡ None → (p : ℕ) (a : Operation) → At (course_of (P.planned plan.now)) p a → IsName hart number op a → ⊥ }
+    ensures some { IfSome result (λ o. (hart < (P.planned plan.now).log.harts) × (1 ≤ number) × (number ≤ length_of (course_of (P.planned plan.now)) hart) × (slice_get ((P.planned plan.now).operations hart number) op ≡ Some o)) }
 {
     if plan.harts() <= hart || number == 0 || plan.len(hart) < number {
         return None;
@@ -73,16 +74,16 @@ fn named<P: PlanOps>(plan: &P, hart: u8, number: u32, op: u32) -> Option<Op>
 
 // A hart performs a write of its stream.
 fn write<P: PlanOps>(plan: &P, state: &mut CoreState, hart: u8, at: Place, op: Op) -> bool
-    requires fits { Fits (course_of (P.log plan.now) (P.opening plan.now) (P.operations plan.now)) state.old }
-    requires hart { hart < (P.log plan.now).harts }
+    requires fits { Fits (course_of (P.planned plan.now)) state.old }
+    requires hart { hart < (P.planned plan.now).log.harts }
     requires from_one { 1 ≤ at.number }
-    requires number { at.number ≤ length_of (course_of (P.log plan.now) (P.opening plan.now) (P.operations plan.now)) hart }
-    requires op { slice_get (P.operations plan.now hart at.number) at.op ≡ Some op }
+    requires number { at.number ≤ length_of (course_of (P.planned plan.now)) hart }
+    requires op { slice_get ((P.planned plan.now).operations hart at.number) at.op ≡ Some op }
     requires is_write { op.write ≡ true }
     requires few { (core_of state.old).written hart < 4294967295 }
-    ensures fits { result ≡ true → Fits (course_of (P.log plan.now) (P.opening plan.now) (P.operations plan.now)) state.new }
-    ensures made { result ≡ true → Makes (course_of (P.log plan.now) (P.opening plan.now) (P.operations plan.now)) (core_of state.old) hart (Perform at.number at.op) (core_of state.new) }
-    ensures refused { result ≡ false → IsAllowed (course_of (P.log plan.now) (P.opening plan.now) (P.operations plan.now)) (core_of state.old) hart (Perform at.number at.op) → ⊥ }
+    ensures fits { result ≡ true → Fits (course_of (P.planned plan.now)) state.new }
+    ensures made { result ≡ true → Makes (course_of (P.planned plan.now)) (core_of state.old) hart (Perform at.number at.op) (core_of state.new) }
+    ensures refused { result ≡ false → IsAllowed (course_of (P.planned plan.now)) (core_of state.old) hart (Perform at.number at.op) → ⊥ }
 {
     let own = state.harts[hart as usize];
     if !is_same(at, own.next) {
@@ -112,13 +113,13 @@ fn write<P: PlanOps>(plan: &P, state: &mut CoreState, hart: u8, at: Place, op: O
 
 // Whether a write that clashes with the hart's read stands between the read and the next write.
 fn is_overtaken<P: PlanOps>(plan: &P, hart: u8, next: Place, at: Place, read: Op) -> bool
-    requires hart { hart < (P.log plan.now).harts }
+    requires hart { hart < (P.planned plan.now).log.harts }
     requires next_from { 1 ≤ next.number }
-    requires next { place next.number next.op ≤ place (length_of (course_of (P.log plan.now) (P.opening plan.now) (P.operations plan.now)) hart + 1) 0 }
+    requires next { place next.number next.op ≤ place (length_of (course_of (P.planned plan.now)) hart + 1) 0 }
     requires from_one { 1 ≤ at.number }
-    requires within { place at.number at.op ≤ place (length_of (course_of (P.log plan.now) (P.opening plan.now) (P.operations plan.now)) hart + 1) 0 }
+    requires within { place at.number at.op ≤ place (length_of (course_of (P.planned plan.now)) hart + 1) 0 }
     requires lanes { read.lanes ≤ 15 }
-    ensures { IsTrue result ↔ (ClashesBetween (course_of (P.log plan.now) (P.opening plan.now) (P.operations plan.now)) hart read (place at.number at.op) (place next.number next.op) ⊎ ClashesBetween (course_of (P.log plan.now) (P.opening plan.now) (P.operations plan.now)) hart read (place next.number next.op) (place at.number at.op)) }
+    ensures { IsTrue result ↔ (ClashesBetween (course_of (P.planned plan.now)) hart read (place at.number at.op) (place next.number next.op) ⊎ ClashesBetween (course_of (P.planned plan.now)) hart read (place next.number next.op) (place at.number at.op)) }
 {
     if is_earlier(at, next) {
         return has_clash(plan, hart, at, next, read);
@@ -128,15 +129,15 @@ fn is_overtaken<P: PlanOps>(plan: &P, hart: u8, next: Place, at: Place, read: Op
 
 // A hart performs a read of its stream.
 fn read<P: PlanOps>(plan: &P, state: &mut CoreState, hart: u8, at: Place, op: Op) -> bool
-    requires fits { Fits (course_of (P.log plan.now) (P.opening plan.now) (P.operations plan.now)) state.old }
-    requires hart { hart < (P.log plan.now).harts }
+    requires fits { Fits (course_of (P.planned plan.now)) state.old }
+    requires hart { hart < (P.planned plan.now).log.harts }
     requires from_one { 1 ≤ at.number }
-    requires number { at.number ≤ length_of (course_of (P.log plan.now) (P.opening plan.now) (P.operations plan.now)) hart }
-    requires op { slice_get (P.operations plan.now hart at.number) at.op ≡ Some op }
+    requires number { at.number ≤ length_of (course_of (P.planned plan.now)) hart }
+    requires op { slice_get ((P.planned plan.now).operations hart at.number) at.op ≡ Some op }
     requires is_read { op.write ≡ false }
-    ensures fits { result ≡ true → Fits (course_of (P.log plan.now) (P.opening plan.now) (P.operations plan.now)) state.new }
-    ensures made { result ≡ true → Makes (course_of (P.log plan.now) (P.opening plan.now) (P.operations plan.now)) (core_of state.old) hart (Perform at.number at.op) (core_of state.new) }
-    ensures refused { result ≡ false → IsAllowed (course_of (P.log plan.now) (P.opening plan.now) (P.operations plan.now)) (core_of state.old) hart (Perform at.number at.op) → ⊥ }
+    ensures fits { result ≡ true → Fits (course_of (P.planned plan.now)) state.new }
+    ensures made { result ≡ true → Makes (course_of (P.planned plan.now)) (core_of state.old) hart (Perform at.number at.op) (core_of state.new) }
+    ensures refused { result ≡ false → IsAllowed (course_of (P.planned plan.now)) (core_of state.old) hart (Perform at.number at.op) → ⊥ }
 {
     let own = state.harts[hart as usize];
     if at.number <= own.progress {
@@ -152,11 +153,11 @@ fn read<P: PlanOps>(plan: &P, state: &mut CoreState, hart: u8, at: Place, op: Op
 
 // A hart performs an operation of its stream.
 fn perform<P: PlanOps>(plan: &P, state: &mut CoreState, hart: u8, number: u32, op: u32) -> bool
-    requires fits { Fits (course_of (P.log plan.now) (P.opening plan.now) (P.operations plan.now)) state.old }
+    requires fits { Fits (course_of (P.planned plan.now)) state.old }
     requires few { (core_of state.old).written hart < 4294967295 }
-    ensures fits { result ≡ true → Fits (course_of (P.log plan.now) (P.opening plan.now) (P.operations plan.now)) state.new }
-    ensures made { result ≡ true → Makes (course_of (P.log plan.now) (P.opening plan.now) (P.operations plan.now)) (core_of state.old) hart (Perform number op) (core_of state.new) }
-    ensures refused { result ≡ false → IsAllowed (course_of (P.log plan.now) (P.opening plan.now) (P.operations plan.now)) (core_of state.old) hart (Perform number op) → ⊥ }
+    ensures fits { result ≡ true → Fits (course_of (P.planned plan.now)) state.new }
+    ensures made { result ≡ true → Makes (course_of (P.planned plan.now)) (core_of state.old) hart (Perform number op) (core_of state.new) }
+    ensures refused { result ≡ false → IsAllowed (course_of (P.planned plan.now)) (core_of state.old) hart (Perform number op) → ⊥ }
 {
     let at = Place { number, op };
     match named(plan, hart, number, op) {
@@ -168,11 +169,11 @@ fn perform<P: PlanOps>(plan: &P, state: &mut CoreState, hart: u8, number: u32, o
 
 // Makes the step where it is allowed, and says whether it was.
 pub(crate) fn make<P: PlanOps>(plan: &P, state: &mut CoreState, step: CoreStep) -> bool
-    requires fits { Fits (course_of (P.log plan.now) (P.opening plan.now) (P.operations plan.now)) state.old }
+    requires fits { Fits (course_of (P.planned plan.now)) state.old }
     requires few { (core_of state.old).written step.hart < 4294967295 }
-    ensures fits { result ≡ true → Fits (course_of (P.log plan.now) (P.opening plan.now) (P.operations plan.now)) state.new }
-    ensures made { result ≡ true → Makes (course_of (P.log plan.now) (P.opening plan.now) (P.operations plan.now)) (core_of state.old) step.hart step.act (core_of state.new) }
-    ensures refused { result ≡ false → IsAllowed (course_of (P.log plan.now) (P.opening plan.now) (P.operations plan.now)) (core_of state.old) step.hart step.act → ⊥ }
+    ensures fits { result ≡ true → Fits (course_of (P.planned plan.now)) state.new }
+    ensures made { result ≡ true → Makes (course_of (P.planned plan.now)) (core_of state.old) step.hart step.act (core_of state.new) }
+    ensures refused { result ≡ false → IsAllowed (course_of (P.planned plan.now)) (core_of state.old) step.hart step.act → ⊥ }
 {
     match step.act {
         Act::See { of } => see(plan, state, step.hart, of),

@@ -1,3 +1,4 @@
+//! How many of a hart's first records have needs that it has seen.
 ghost use Rattle.std.specs.Prelude.{◌≡◌, ℕ, ◌+◌, ◌<◌, ◌≤◌, ◌↔◌, ◌⊎◌, IsTrue, Option, Some, None, length, max, slice_index, slice_index_or};
 ghost use Rattle.order_core.specs.Course.{course_of, length_of};
 ghost use Rattle.order_core.specs.Core.{IsMet};
@@ -36,13 +37,13 @@ pub(crate) fn met_up_to<P: PlanOps>(
     from: u32,
     upto: u32,
 ) -> u32
-    requires hart { hart < (P.log plan.now).harts }
-    requires upto { upto ≤ length_of (course_of (P.log plan.now) (P.opening plan.now) (P.operations plan.now)) hart }
-    requires from { from ≤ length_of (course_of (P.log plan.now) (P.opening plan.now) (P.operations plan.now)) hart }
-    requires met { IsMet (course_of (P.log plan.now) (P.opening plan.now) (P.operations plan.now)) (slice_index seen.now) hart from }
-    ensures met { IsMet (course_of (P.log plan.now) (P.opening plan.now) (P.operations plan.now)) (slice_index seen.now) hart result }
-    ensures low { result ≤ length_of (course_of (P.log plan.now) (P.opening plan.now) (P.operations plan.now)) hart }
-    ensures most { (m : ℕ) → m ≤ upto → IsMet (course_of (P.log plan.now) (P.opening plan.now) (P.operations plan.now)) (slice_index seen.now) hart m → m ≤ result }
+    requires hart { hart < (P.planned plan.now).log.harts }
+    requires upto { upto ≤ length_of (course_of (P.planned plan.now)) hart }
+    requires from { from ≤ length_of (course_of (P.planned plan.now)) hart }
+    requires met { IsMet (course_of (P.planned plan.now)) (slice_index seen.now) hart from }
+    ensures met { IsMet (course_of (P.planned plan.now)) (slice_index seen.now) hart result }
+    ensures low { result ≤ length_of (course_of (P.planned plan.now)) hart }
+    ensures most { (m : ℕ) → m ≤ upto → IsMet (course_of (P.planned plan.now)) (slice_index seen.now) hart m → m ≤ result }
 {
     for number in from..upto {
         if !are_seen(plan.needs(hart, number + 1), seen) {

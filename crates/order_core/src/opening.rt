@@ -1,3 +1,4 @@
+//! The state at the start of a run.
 ghost use Rattle.std.specs.Prelude.{◌≡◌, ℕ, ◌<◌, IfOk};
 ghost use Rattle.order_core.specs.Course.{course_of};
 ghost use Rattle.order_core.specs.States.{hart_in, AreKept, IsFresh};
@@ -11,7 +12,7 @@ use std::alloc::Global;
 
 // The words of the table at the start.
 pub(crate) fn opening_words<P: PlanOps>(alloc: Global, plan: &P) -> Result<Vec<u64>, NoMemory>
-    ensures { IfOk result (λ words. words.items ≡ P.opening plan.now) }
+    ensures { IfOk result (λ words. words.items ≡ (P.planned plan.now).opening) }
 {
     let mut words = Vec::new(alloc);
     for i in 0..u32::MAX {
@@ -25,7 +26,7 @@ pub(crate) fn opening_words<P: PlanOps>(alloc: Global, plan: &P) -> Result<Vec<u
 
 // The harts at the start.
 pub(crate) fn opening_harts<P: PlanOps>(plan: &P) -> [HartState; 8]
-    ensures kept { AreKept (course_of (P.log plan.now) (P.opening plan.now) (P.operations plan.now)) result }
+    ensures kept { AreKept (course_of (P.planned plan.now)) result }
     ensures fresh { (h : ℕ) → IsFresh (hart_in result h) }
 {
     let first = Place { number: 1, op: 0 };

@@ -1,3 +1,4 @@
+//! Places in the stream of a hart.
 ghost use Rattle.std.specs.Prelude.{◌≡◌, ◌+◌, ◌<◌, ◌↔◌, IsTrue, IsSome};
 ghost use Rattle.order_core.specs.Places.{place};
 

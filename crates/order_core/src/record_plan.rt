@@ -1,3 +1,4 @@
+//! The operations and the needs of one record.
 use crate::course::Op;
 use pl_event::Arcs;
 

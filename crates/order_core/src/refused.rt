@@ -1,3 +1,4 @@
+//! Why a list of steps is not run to its end.
 use pl_base::NoMemory;
 
 /// Why a list of steps was not run to its end.
@@ -9,6 +10,12 @@ pub enum CoreRefused {
     NoMemory,
 }
 
+/// The first step of a list, counted from 0, that is not allowed.
+#[derive(Clone, Copy, Debug)]
+pub(crate) struct FirstRefused {
+    pub(crate) at: u32,
+}
+
 impl From<NoMemory> for CoreRefused {
     ghost use Rattle.std.specs.Prelude.{◌≡◌};
     ghost use Rattle.order_core.specs.declared.refused.CoreRefused.TheVariants.{NoMemory};
@@ -17,5 +24,16 @@ impl From<NoMemory> for CoreRefused {
 
     fn from(_refused: NoMemory) -> CoreRefused {
         CoreRefused::NoMemory
+    }
+}
+
+impl From<FirstRefused> for CoreRefused {
+    ghost use Rattle.std.specs.Prelude.{◌≡◌};
+    ghost use Rattle.order_core.specs.declared.refused.CoreRefused.TheVariants.{NotAble};
+
+    ghost from_gives = { λ first e. e ≡ NotAble first.at };
+
+    fn from(first: FirstRefused) -> CoreRefused {
+        CoreRefused::NotAble { at: first.at }
     }
 }

@@ -1,25 +1,27 @@
+//! Runs of steps over a plan.
 ghost use Rattle.std.specs.Prelude.{◌≡◌, ℕ, ◌+◌, ◌<◌, ◌≤◌, ◌^◌, ◌⊎◌, length, slice_index, IfOk, IfErr, MatchResult};
 ghost use Rattle.order_core.specs.Course.{course_of};
-ghost use Rattle.order_core.specs.Core.{IsCursor, Stands, IsFinished};
+ghost use Rattle.order_core.specs.Core.{opening_core, IsCursor, IsConsistent, IsFinished};
 ghost use Rattle.order_core.specs.Runs.{IsReached};
-ghost use Rattle.order_core.specs.States.{hart_in, core_of, word_count, IsKept, AreKept};
-ghost use Rattle.order_core.specs.Outcomes.{IsFirstRefused, IsRefusal, ReadsAreSequential, HasLastWords, HasCursors};
+ghost use Rattle.order_core.specs.States.{hart_in, core_of, word_count, IsKept, AreKept, Fits};
+ghost use Rattle.order_core.specs.Outcomes.{IsFirstRefused, IsRefusal, HasCursors};
+ghost use Rattle.order_core.specs.Outcomes.{ReadsAreSequential, ReadsStayOpen, HasLastWords, HasMove, HasFewMoves};
 ghost use Rattle.order_core.specs.declared.refused.CoreRefused.TheVariants.{NotAble, NoMemory};
 
 use crate::moves::make;
 use crate::needs::met_up_to;
 use crate::opening::{opening_harts, opening_words};
 use crate::plan::PlanOps;
-use crate::refused::CoreRefused;
+use crate::refused::{CoreRefused, FirstRefused};
 use crate::state::{CoreState, HartState};
 use crate::steps::CoreStep;
 use std::alloc::Global;
 
 // The cursor of a hart.
 fn cursor_now<P: PlanOps>(plan: &P, hart: u8, own: HartState) -> u32
-    requires hart { hart < (P.log plan.now).harts }
-    requires kept { IsKept (course_of (P.log plan.now) (P.opening plan.now) (P.operations plan.now)) hart own }
-    ensures { IsCursor (course_of (P.log plan.now) (P.opening plan.now) (P.operations plan.now)) own.written (slice_index own.seen) hart result }
+    requires hart { hart < (P.planned plan.now).log.harts }
+    requires kept { IsKept (course_of (P.planned plan.now)) hart own }
+    ensures { IsCursor (course_of (P.planned plan.now)) own.written (slice_index own.seen) hart result }
 {
     let below = own.next.number - 1;
     below.min(met_up_to(plan, hart, &own.seen, own.met, below))
@@ -27,15 +29,36 @@ fn cursor_now<P: PlanOps>(plan: &P, hart: u8, own: HartState) -> u32
 
 // The cursors of the harts.
 fn cursors_now<P: PlanOps>(plan: &P, harts: &[HartState; 8]) -> [u32; 8]
-    requires { AreKept (course_of (P.log plan.now) (P.opening plan.now) (P.operations plan.now)) harts.now }
-    ensures others { (h : ℕ) → (P.log plan.now).harts ≤ h → slice_index result h ≡ 0 }
-    ensures harts { (h : ℕ) → h < (P.log plan.now).harts → IsCursor (course_of (P.log plan.now) (P.opening plan.now) (P.operations plan.now)) (hart_in harts.now h).written (slice_index (hart_in harts.now h).seen) h (slice_index result h) }
+    requires { AreKept (course_of (P.planned plan.now)) harts.now }
+    ensures others { (h : ℕ) → (P.planned plan.now).log.harts ≤ h → slice_index result h ≡ 0 }
+    ensures harts { (h : ℕ) → h < (P.planned plan.now).log.harts → IsCursor (course_of (P.planned plan.now)) (hart_in harts.now h).written (slice_index (hart_in harts.now h).seen) h (slice_index result h) }
 {
     let mut cursors = [0; 8];
     for hart in 0..plan.harts() {
         cursors[hart as usize] = cursor_now(plan, hart, harts[hart as usize]);
     }
     cursors
+}
+
+// Makes the steps, one after the other, up to the first that is not allowed.
+fn make_all<P: PlanOps>(
+    plan: &P,
+    state: &mut CoreState,
+    steps: &[CoreStep],
+) -> Result<(), FirstRefused>
+    requires fits { Fits (course_of (P.planned plan.now)) state.old }
+    requires opening { core_of state.old ≡ opening_core (course_of (P.planned plan.now)) }
+    requires few { length steps.now < 2 ^ 32 }
+    ensures fits { IfOk result (λ _. Fits (course_of (P.planned plan.now)) state.new) }
+    ensures made { IfOk result (λ _. IsReached (course_of (P.planned plan.now)) steps.now (core_of state.new)) }
+    ensures refused { IfErr result (λ first. IsFirstRefused (course_of (P.planned plan.now)) steps.now first.at) }
+{
+    for (at, step) in steps.iter().enumerate() {
+        if !make(plan, state, *step) {
+            return Err(FirstRefused { at: at as u32 });
+        }
+    }
+    Ok(())
 }
 
 /// Makes the steps, one after the other, from the opening state of the plan. In all it takes a time near the number of
@@ -52,26 +75,27 @@ pub fn run_core<P: PlanOps>(
     steps: &[CoreStep],
 ) -> Result<CoreState, CoreRefused>
     requires { length steps.now < 2 ^ 32 }
-    ensures state { IfOk result (λ s. IsReached (course_of (P.log plan.now) (P.opening plan.now) (P.operations plan.now)) steps.now (core_of s)) }
-    ensures cursors { IfOk result (λ s. HasCursors (course_of (P.log plan.now) (P.opening plan.now) (P.operations plan.now)) s) }
-    ensures words { IfOk result (λ s. word_count s ≡ length (P.opening plan.now)) }
-    ensures stands { IfOk result (λ s. Stands (course_of (P.log plan.now) (P.opening plan.now) (P.operations plan.now)) (core_of s)) }
-    ensures reads { ReadsAreSequential (course_of (P.log plan.now) (P.opening plan.now) (P.operations plan.now)) steps.now }
-    ensures last { IfOk result (λ s. IsFinished (course_of (P.log plan.now) (P.opening plan.now) (P.operations plan.now)) (core_of s) → HasLastWords (course_of (P.log plan.now) (P.opening plan.now) (P.operations plan.now)) (core_of s)) }
-    ensures refused { IfErr result (λ e. IsRefusal (course_of (P.log plan.now) (P.opening plan.now) (P.operations plan.now)) steps.now e) }
-    ensures exact { (at : ℕ) → IsFirstRefused (course_of (P.log plan.now) (P.opening plan.now) (P.operations plan.now)) steps.now at → MatchResult result (λ _. ⊥) (λ e. (e ≡ NotAble at) ⊎ (e ≡ NoMemory)) }
+    ensures state { IfOk result (λ s. IsReached (course_of (P.planned plan.now)) steps.now (core_of s)) }
+    ensures cursors { IfOk result (λ s. HasCursors (course_of (P.planned plan.now)) s) }
+    ensures words { IfOk result (λ s. word_count s ≡ length (P.planned plan.now).opening) }
+    ensures consistent { IfOk result (λ s. IsConsistent (course_of (P.planned plan.now)) (core_of s)) }
+    ensures reads { ReadsAreSequential (course_of (P.planned plan.now)) steps.now }
+    ensures late { IfOk result (λ s. ReadsStayOpen (course_of (P.planned plan.now)) (core_of s)) }
+    ensures last { let c = course_of (P.planned plan.now) in
+        IfOk result (λ s. IsFinished c (core_of s) → HasLastWords c (core_of s)) }
+    ensures moves { let c = course_of (P.planned plan.now) in
+        IfOk result (λ s. (IsFinished c (core_of s) → ⊥) → ∥ HasMove c (core_of s) ∥₁) }
+    ensures bound { IfOk result (λ s. HasFewMoves (course_of (P.planned plan.now)) (core_of s)) }
+    ensures refused { IfErr result (λ e. IsRefusal (course_of (P.planned plan.now)) steps.now e) }
+    ensures exact { (at : ℕ) → IsFirstRefused (course_of (P.planned plan.now)) steps.now at →
+        MatchResult result (λ _. ⊥) (λ e. (e ≡ NotAble at) ⊎ (e ≡ NoMemory)) }
 {
-    let words = opening_words(alloc, plan)?;
     let mut state = CoreState {
         harts: opening_harts(plan),
         cursors: [0; 8],
-        words,
+        words: opening_words(alloc, plan)?,
     };
-    for (at, step) in steps.iter().enumerate() {
-        if !make(plan, &mut state, *step) {
-            return Err(CoreRefused::NotAble { at: at as u32 });
-        }
-    }
+    make_all(plan, &mut state, steps)?;
     state.cursors = cursors_now(plan, &state.harts);
     Ok(state)
 }

@@ -1,3 +1,4 @@
+//! The next write of a hart, and the writes that clash with a read.
 ghost use Rattle.std.specs.Prelude.{◌≡◌, ℕ, ◌+◌, ◌<◌, ◌≤◌, ◌↔◌, true, false, IsTrue, MatchOption, Option, length};
 ghost use Rattle.order_core.specs.declared.course.Op.{Op};
 ghost use Rattle.order_core.specs.Course.{course_of, length_of, At};
@@ -21,8 +22,8 @@ fn is_write(found: Option<Op>) -> bool
     }
 }
 
-// The place behind the operation that was found there; where there is none, the first of the next record.
-fn behind(at: Place, found: Option<Op>) -> Place
+// The place next_place the operation that was found there; where there is none, the first of the next record.
+fn next_place(at: Place, found: Option<Op>) -> Place
     requires number { at.number < 4294967295 }
     requires op { MatchOption found (Unit {0}) (λ op. at.op < 4294967295) }
     ensures { MatchOption found (result ≡ record { number = at.number + 1; op = 0 }) (λ op. result ≡ record { number = at.number; op = at.op + 1 }) }
@@ -39,15 +40,15 @@ fn behind(at: Place, found: Option<Op>) -> Place
     }
 }
 
-// The first write of the hart from a place on; where there is none, the place behind its last record.
+// The first write of the hart from a place on; where there is none, the place next_place its last record.
 pub(crate) fn seek<P: PlanOps>(plan: &P, hart: u8, from: Place) -> Place
-    requires hart { hart < (P.log plan.now).harts }
+    requires hart { hart < (P.planned plan.now).log.harts }
     requires from_one { 1 ≤ from.number }
-    requires within { place from.number from.op ≤ place (length_of (course_of (P.log plan.now) (P.opening plan.now) (P.operations plan.now)) hart + 1) 0 }
+    requires within { place from.number from.op ≤ place (length_of (course_of (P.planned plan.now)) hart + 1) 0 }
     ensures from_one { 1 ≤ result.number }
-    ensures within { place result.number result.op ≤ place (length_of (course_of (P.log plan.now) (P.opening plan.now) (P.operations plan.now)) hart + 1) 0 }
-    ensures count { let c = course_of (P.log plan.now) (P.opening plan.now) (P.operations plan.now) in writes_before c hart result.number result.op ≡ writes_before c hart from.number from.op }
-    ensures there { let c = course_of (P.log plan.now) (P.opening plan.now) (P.operations plan.now) in result.number ≤ length_of c hart → (p : ℕ) × (a : Operation) × At c p a × IsName hart result.number result.op a × (a.write ≡ true) }
+    ensures within { place result.number result.op ≤ place (length_of (course_of (P.planned plan.now)) hart + 1) 0 }
+    ensures count { let c = course_of (P.planned plan.now) in writes_before c hart result.number result.op ≡ writes_before c hart from.number from.op }
+    ensures there { let c = course_of (P.planned plan.now) in result.number ≤ length_of c hart → (p : ℕ) × (a : Operation) × At c p a × IsName hart result.number result.op a × (a.what.write ≡ true) }
 {
     let len = plan.len(hart);
     let mut at = from;
@@ -56,18 +57,18 @@ pub(crate) fn seek<P: PlanOps>(plan: &P, hart: u8, from: Place) -> Place
         if is_write(found) {
             return at;
         }
-        at = behind(at, found);
+        at = next_place(at, found);
     }
     at
 }
 
 // Whether a write of the hart from one place on, before another, clashes with the read.
 pub(crate) fn has_clash<P: PlanOps>(plan: &P, hart: u8, from: Place, to: Place, read: Op) -> bool
-    requires hart { hart < (P.log plan.now).harts }
+    requires hart { hart < (P.planned plan.now).log.harts }
     requires from_one { 1 ≤ from.number }
-    requires within { place to.number to.op ≤ place (length_of (course_of (P.log plan.now) (P.opening plan.now) (P.operations plan.now)) hart + 1) 0 }
+    requires within { place to.number to.op ≤ place (length_of (course_of (P.planned plan.now)) hart + 1) 0 }
     requires lanes { read.lanes ≤ 15 }
-    ensures { let c = course_of (P.log plan.now) (P.opening plan.now) (P.operations plan.now) in IsTrue result ↔ ClashesBetween c hart read (place from.number from.op) (place to.number to.op) }
+    ensures { let c = course_of (P.planned plan.now) in IsTrue result ↔ ClashesBetween c hart read (place from.number from.op) (place to.number to.op) }
 {
     let mut at = from;
     while is_earlier(at, to) {
@@ -75,7 +76,7 @@ pub(crate) fn has_clash<P: PlanOps>(plan: &P, hart: u8, from: Place, to: Place, 
         if is_clashing(found, read) {
             return true;
         }
-        at = behind(at, found);
+        at = next_place(at, found);
     }
     false
 }

@@ -1,4 +1,6 @@
+//! The state of the core.
 ghost use Rattle.std.specs.Prelude.{◌≡◌, ◌<◌, ◌≤◌};
+ghost use Rattle.order_core.specs.Core.{table_word};
 ghost use Rattle.order_core.specs.States.{core_of, cursor_of, word_count};
 
 use crate::place::Place;
@@ -10,7 +12,7 @@ pub(crate) struct HartState {
     pub(crate) progress: u32,
     /// How many of its writes are performed.
     pub(crate) written: u32,
-    /// The first write that is not performed; where all are, the place behind its last record.
+    /// The first write that is not performed; where all are, the place after its last record.
     pub(crate) next: Place,
     /// How many of its first records were found to have needs that it has seen.
     pub(crate) met: u32,
@@ -58,12 +60,15 @@ impl CoreState {
         }
     }
 
-    /// Word `i` of the table, other than word 0.
+    /// Word `i` of the table, other than word 0: words 1 to 8 are the progress words of harts 0 to 7.
     pub fn word(&self, i: u32) -> u64
         requires from_one { 1 ≤ i }
         requires inside { i < word_count self.now }
-        ensures { result ≡ (core_of self.now).word i }
+        ensures { result ≡ table_word (core_of self.now) i }
     {
+        if i < 9 {
+            return self.harts[(i - 1) as usize].progress as u64;
+        }
         self.words[i as usize]
     }
 }

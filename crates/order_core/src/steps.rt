@@ -1,3 +1,4 @@
+//! The steps of harts.
 /// What a hart does in one step of the core.
 #[derive(Clone, Copy, Debug, PartialEq, Eq)]
 pub enum Act {

@@ -1,4 +1,6 @@
-ghost use Rattle.std.specs.Prelude.{◌≡◌, ◌∷◌, ◌<◌, ◌^◌, true, false, None, Some, length, replicate, slice_set, IfOk};
+//! Lists of steps over a small plan of two harts: the state they come to, and the first step that is not allowed.
+
+ghost use Rattle.std.specs.Prelude.{◌≡◌, ◌<◌, ◌^◌, true, false, None, Some, length, replicate, slice_set, IfOk};
 ghost use Rattle.pl_event.specs.declared.log.Record.TheVariants as entry;
 ghost use Rattle.pl_event.specs.declared.event.Kind.TheVariants.{Im};
 
@@ -27,15 +29,6 @@ fn after(hart: u8, number: u32) -> Arcs
 {
     let mut arcs = Arcs::none();
     arcs.set(hart, Some(number));
-    arcs
-}
-
-fn after_both() -> Arcs
-    ensures { result ≡ Some 1 ∷ Some 1 ∷ replicate 6 None }
-{
-    let mut arcs = Arcs::none();
-    arcs.set(0, Some(1));
-    arcs.set(1, Some(1));
     arcs
 }
 
@@ -100,44 +93,6 @@ fn two_harts(alloc: Global) -> Result<ListPlan, NoMemory>
     Ok(ListPlan::new(log, opening, streams))
 }
 
-// Harts 0 and 1 write lanes 0 and 1 of word 9; hart 2 reads both and writes lane 1.
-fn three_harts(alloc: Global) -> Result<ListPlan, NoMemory>
-    ensures { IfOk result (λ plan. length plan.opening.items ≡ 10) }
-{
-    let mut lines = Lines::new(alloc);
-    lines.push(plain(0, Arcs::none()))?;
-    lines.push(plain(1, Arcs::none()))?;
-    lines.push(plain(2, after_both()))?;
-    let log = Log {
-        harts: 3,
-        block: 16,
-        pages: PageRuns::new(alloc),
-        lines,
-    };
-    let opening = Vec::from_array(alloc, [0, 0, 0, 0, 0, 0, 0, 0, 0, 5])?;
-    let first = RecordPlan {
-        operations: Vec::from_array(alloc, [write(9, 1, 7)])?,
-        needs: Arcs::none(),
-    };
-    let second = RecordPlan {
-        operations: Vec::from_array(alloc, [write(9, 2, 0x3_0000)])?,
-        needs: Arcs::none(),
-    };
-    let third = RecordPlan {
-        operations: Vec::from_array(alloc, [read(9, 3, 0x3_0007), write(9, 2, 0x4_0000)])?,
-        needs: after_both(),
-    };
-    let streams = Vec::from_array(
-        alloc,
-        [
-            Vec::from_array(alloc, [first])?,
-            Vec::from_array(alloc, [second])?,
-            Vec::from_array(alloc, [third])?,
-        ],
-    )?;
-    Ok(ListPlan::new(log, opening, streams))
-}
-
 fn see(hart: u8, of: u8) -> CoreStep {
     CoreStep {
         hart,
@@ -187,6 +142,7 @@ fn two_harts_run_to_the_end(rt: HostRuntime) -> Result<(), Fail> {
     let state = run_core(rt.alloc(), &plan, &steps)?;
     assert_eq!(rt; state.word(9), 0x3_0007);
     assert_eq!(rt; state.word(10), 9);
+    assert_eq!(rt; state.word(1), 2);
     assert_eq!(rt; state.progress(0), 2);
     assert_eq!(rt; state.cursor(1), 1);
     assert_eq!(rt; state.written(0), 2);
@@ -195,46 +151,15 @@ fn two_harts_run_to_the_end(rt: HostRuntime) -> Result<(), Fail> {
 }
 
 #[test]
-fn what_was_not_seen_is_waited_for(rt: HostRuntime) -> Result<(), Fail> {
+fn the_first_step_that_is_not_allowed_is_named(rt: HostRuntime) -> Result<(), Fail> {
     let alloc = rt.alloc();
     let plan = two_harts(alloc)?;
-    assert!(rt; stops_at(&plan, alloc, &[perform(1, 1, 0)], 0));
-    assert!(rt;
-        stops_at(
-            &plan,
-            alloc,
-            &[perform(0, 1, 0), see(1, 0), perform(1, 1, 1)],
-            2
-        )
-    );
-    assert!(rt; stops_at(&plan, alloc, &[see(0, 0)], 0));
-    assert!(rt; stops_at(&plan, alloc, &[see(0, 1), see(0, 2)], 1));
-    Ok(())
-}
-
-#[test]
-fn writes_are_made_in_turn(rt: HostRuntime) -> Result<(), Fail> {
-    let alloc = rt.alloc();
-    let plan = two_harts(alloc)?;
-    assert!(rt; stops_at(&plan, alloc, &[perform(0, 1, 0), perform(0, 1, 0)], 1));
-    assert!(rt; stops_at(&plan, alloc, &[perform(0, 1, 1)], 0));
-    Ok(())
-}
-
-#[test]
-fn a_progress_word_rises_to_the_cursor(rt: HostRuntime) -> Result<(), Fail> {
-    let alloc = rt.alloc();
-    let plan = two_harts(alloc)?;
-    assert!(rt; stops_at(&plan, alloc, &[advertise(0, 1)], 0));
-    assert!(rt;
-        stops_at(
-            &plan,
-            alloc,
-            &[perform(0, 1, 0), advertise(0, 1), advertise(0, 0)],
-            2
-        )
-    );
-    assert!(rt; stops_at(&plan, alloc, &[perform(0, 1, 0), advertise(0, 2)], 1));
+    let unseen = [perform(0, 1, 0), see(1, 0), perform(1, 1, 1)];
+    assert!(rt; stops_at(&plan, alloc, &unseen, 2));
+    let repeated = [perform(0, 1, 0), perform(0, 1, 0)];
+    assert!(rt; stops_at(&plan, alloc, &repeated, 1));
+    let early = [perform(0, 1, 0), advertise(0, 2)];
+    assert!(rt; stops_at(&plan, alloc, &early, 1));
     Ok(())
 }
 
@@ -242,64 +167,15 @@ fn a_progress_word_rises_to_the_cursor(rt: HostRuntime) -> Result<(), Fail> {
 fn a_read_may_be_late_till_its_record_is_advertised(rt: HostRuntime) -> Result<(), Fail> {
     let alloc = rt.alloc();
     let plan = two_harts(alloc)?;
-    let late = [
-        perform(0, 1, 0),
-        advertise(0, 1),
-        see(1, 0),
-        perform(1, 1, 1),
-        perform(1, 1, 0),
-        perform(1, 1, 0),
-    ];
-    let state = run_core(alloc, &plan, &late)?;
-    assert_eq!(rt; state.word(9), 0x3_0007);
-    assert_eq!(rt; state.cursor(1), 1);
     let told = [
         perform(0, 1, 0),
         advertise(0, 1),
         see(1, 0),
         perform(1, 1, 1),
+        perform(1, 1, 0),
         advertise(1, 1),
         perform(1, 1, 0),
     ];
-    assert!(rt; stops_at(&plan, alloc, &told, 5));
-    Ok(())
-}
-
-#[test]
-fn two_harts_share_a_word_by_lanes(rt: HostRuntime) -> Result<(), Fail> {
-    let alloc = rt.alloc();
-    let plan = three_harts(alloc)?;
-    let steps = [
-        perform(1, 1, 0),
-        advertise(1, 1),
-        perform(0, 1, 0),
-        advertise(0, 1),
-        see(2, 0),
-        see(2, 1),
-        perform(2, 1, 0),
-        perform(2, 1, 1),
-    ];
-    let state = run_core(alloc, &plan, &steps)?;
-    assert_eq!(rt; state.word(9), 0x4_0007);
-    assert_eq!(rt; state.cursor(2), 1);
-    assert_eq!(rt; state.progress(2), 0);
-    Ok(())
-}
-
-#[test]
-fn a_write_of_its_own_hart_ends_the_time_of_a_read(rt: HostRuntime) -> Result<(), Fail> {
-    let alloc = rt.alloc();
-    let plan = three_harts(alloc)?;
-    let steps = [
-        perform(0, 1, 0),
-        advertise(0, 1),
-        perform(1, 1, 0),
-        advertise(1, 1),
-        see(2, 0),
-        see(2, 1),
-        perform(2, 1, 1),
-        perform(2, 1, 0),
-    ];
-    assert!(rt; stops_at(&plan, alloc, &steps, 7));
+    assert!(rt; stops_at(&plan, alloc, &told, 6));
     Ok(())
 }

@@ -19,7 +19,8 @@ use Rattle.pl_event.specs.Records.{records_before, IsRecord}
 use Rattle.pl_event.specs.Edges.{arc_of, notice_of, IsArc, IsNotice, IsAfter, Into, IsFlow}
 use Rattle.pl_event.specs.Needs.{IsMost, need_of, needs_of}
 use Rattle.pl_event.specs.Feeds.{place_at, event_number_at, fed_at, feds_from}
-use Rattle.pl_event.specs.Heads.{later, IsNext, Tells}
+use Rattle.pl_event.specs.Heads.{IsNext, Tells}
+use Rattle.pl_event.specs.inner.Later.{later}
 use Rattle.pl_event.proofs.Places.{one_place, record_at, before_up, before_own, before_other, before_none, before_most, inside}
 use Rattle.pl_event.proofs.Edges.{source_before}
 use Rattle.pl_event.proofs.Sources.{need_most, one_most}

@@ -1,9 +1,10 @@
 pub mod Before
 pub mod Edges
+pub mod MappedPages
 pub mod Mosts
+pub mod OpeningPages
 pub mod Paths
 pub mod Places
 pub mod Sources
 pub mod RowLemmas
 pub mod StreamLemmas
-pub mod ToldFlow

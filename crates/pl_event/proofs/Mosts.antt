@@ -3,7 +3,7 @@ use Rattle.std.proofs.Common.{◌≡◌, ℕ, ◌≤◌, ◌⊎◌, max, Option,
 use mathlib.Core.Logic.{dite}
 use native.Mathlib.Decide.{dec_le}
 use Rattle.pl_event.specs.Needs.{IsMost}
-use Rattle.pl_event.specs.Heads.{later}
+use Rattle.pl_event.specs.inner.Later.{later}
 
 pub later_most : (P Q : ℕ → Type 0) (a b : Option ℕ) → IsMost P a → IsMost Q b → IsMost (λ n. P n ⊎ Q n) (later a b)
 later_most P Q None None p q = λ k e. ⊎_elim (λ (x : P k). p k x) (λ (x : Q k). q k x) e

@@ -7,69 +7,69 @@ use native.Mathlib.Decide.{ℕ_discrete}
 use lib.ListN.{get_elem?}
 use Rattle.pl_event.specs.declared.log.Line.{Line}
 use Rattle.pl_event.specs.Numbers.{hart_of, is_of}
-use Rattle.pl_event.specs.Records.{records_before, IsRecord, standing}
+use Rattle.pl_event.specs.Records.{records_before, IsRecord, line_number}
 
 pub eqb_is : (a b : ℕ) → eqb a b ≡ true → a ≡ b
 eqb_is a b e = grind (arith, nat_tests)
 
-pub standing_zero : (g : List Line) (h : ℕ) → standing g h 0 ≡ 0
-standing_zero [] h = refl
-standing_zero (l ∷ g) h = refl
+pub line_number_zero : (g : List Line) (h : ℕ) → line_number g h 0 ≡ 0
+line_number_zero [] h = refl
+line_number_zero (l ∷ g) h = refl
 
-pub standing_next : (g : List Line) (h m : ℕ) → standing g h m < standing g h (m + 1)
-standing_next g h m = subst (λ (z : ℕ). standing g h m < standing g h z) (omega arith) (up g h m)
+pub line_number_next : (g : List Line) (h m : ℕ) → line_number g h m < line_number g h (m + 1)
+line_number_next g h m = subst (λ (z : ℕ). line_number g h m < line_number g h z) (omega arith) (up g h m)
   where
-    up : (g : List Line) (h m : ℕ) → standing g h m < standing g h (suc m)
+    up : (g : List Line) (h m : ℕ) → line_number g h m < line_number g h (suc m)
     up [] h m = omega arith
     up (l ∷ g) h zero = omega arith
     up (l ∷ g) h (suc m) = by (is_of h l) (up g h m) (up g h (suc m))
       where
-        by : (b : Bool) → standing g h m < standing g h (suc m) → standing g h (suc m) < standing g h (suc (suc m)) → suc (if b then standing g h m else standing g h (suc m)) < suc (if b then standing g h (suc m) else standing g h (suc (suc m)))
+        by : (b : Bool) → line_number g h m < line_number g h (suc m) → line_number g h (suc m) < line_number g h (suc (suc m)) → suc (if b then line_number g h m else line_number g h (suc m)) < suc (if b then line_number g h (suc m) else line_number g h (suc (suc m)))
         by true a b = omega arith
         by false a b = omega arith
 
 -- where a record stands
-pub standing_of : (g : List Line) (i h m : ℕ) (l : Line) → IsRecord g i h m l → standing g h m ≡ i + 1
-standing_of g i h m l is = go g i h m l is.at is.hart is.number
+pub line_number_of : (g : List Line) (i h m : ℕ) (l : Line) → IsRecord g i h m l → line_number g h m ≡ i + 1
+line_number_of g i h m l is = go g i h m l is.at is.hart is.number
   where
-    go : (g : List Line) (i h m : ℕ) (l : Line) → get_elem? g i ≡ some l → hart_of l.what ≡ h → records_before h g i + 1 ≡ m → standing g h m ≡ i + 1
+    go : (g : List Line) (i h m : ℕ) (l : Line) → get_elem? g i ≡ some l → hart_of l.what ≡ h → records_before h g i + 1 ≡ m → line_number g h m ≡ i + 1
     go [] i h m l at own number = absurd (some-ne-none l (sym at))
     go (x ∷ g) zero h m l at own number =
         let t : is_of h x ≡ true = eq-eqb (hart_of x.what) h (ap (λ (z : Line). hart_of z.what) (some-injective x l at) ∙ own) in
         let one : 1 ≡ m = number in
-        subst (λ (z : ℕ). standing (x ∷ g) h z ≡ 1) one (ap (λ (b : Bool). suc (if b then standing g h 0 else standing g h 1)) t ∙ ap suc (standing_zero g h))
+        subst (λ (z : ℕ). line_number (x ∷ g) h z ≡ 1) one (ap (λ (b : Bool). suc (if b then line_number g h 0 else line_number g h 1)) t ∙ ap suc (line_number_zero g h))
     go (x ∷ g) (suc i) h m l at own number = by (λ m e. go g i h m l at own e) (is_of h x) refl number
       where
-        by : ((m : ℕ) → records_before h g i + 1 ≡ m → standing g h m ≡ i + 1) → (b : Bool) → is_of h x ≡ b → (if b then 1 else 0) + records_before h g i + 1 ≡ m → standing (x ∷ g) h m ≡ suc i + 1
+        by : ((m : ℕ) → records_before h g i + 1 ≡ m → line_number g h m ≡ i + 1) → (b : Bool) → is_of h x ≡ b → (if b then 1 else 0) + records_before h g i + 1 ≡ m → line_number (x ∷ g) h m ≡ suc i + 1
         by deep true e n =
             let there : suc (records_before h g i + 1) ≡ m = omega arith in
-            let d : standing g h (records_before h g i + 1) ≡ i + 1 = deep (records_before h g i + 1) refl in
-            subst (λ (z : ℕ). standing (x ∷ g) h z ≡ suc i + 1) there (ap (λ (b : Bool). suc (if b then standing g h (records_before h g i + 1) else standing g h (suc (records_before h g i + 1)))) e ∙ (let d : suc (standing g h (records_before h g i + 1)) ≡ suc i + 1 = omega arith in d))
+            let d : line_number g h (records_before h g i + 1) ≡ i + 1 = deep (records_before h g i + 1) refl in
+            subst (λ (z : ℕ). line_number (x ∷ g) h z ≡ suc i + 1) there (ap (λ (b : Bool). suc (if b then line_number g h (records_before h g i + 1) else line_number g h (suc (records_before h g i + 1)))) e ∙ (let d : suc (line_number g h (records_before h g i + 1)) ≡ suc i + 1 = omega arith in d))
         by deep false e n =
             let there : suc (records_before h g i) ≡ m = omega arith in
-            let d : standing g h (suc (records_before h g i)) ≡ i + 1 = deep (suc (records_before h g i)) (omega arith) in
-            subst (λ (z : ℕ). standing (x ∷ g) h z ≡ suc i + 1) there (ap (λ (b : Bool). suc (if b then standing g h (records_before h g i) else standing g h (suc (records_before h g i)))) e ∙ (let d : suc (standing g h (suc (records_before h g i))) ≡ suc i + 1 = omega arith in d))
+            let d : line_number g h (suc (records_before h g i)) ≡ i + 1 = deep (suc (records_before h g i)) (omega arith) in
+            subst (λ (z : ℕ). line_number (x ∷ g) h z ≡ suc i + 1) there (ap (λ (b : Bool). suc (if b then line_number g h (records_before h g i) else line_number g h (suc (records_before h g i)))) e ∙ (let d : suc (line_number g h (suc (records_before h g i))) ≡ suc i + 1 = omega arith in d))
 
 -- the records among the first i lines stand at the first i places
-pub standing_in : (g : List Line) (i h n : ℕ) → n ≤ records_before h g i → standing g h n ≤ i
-standing_in [] i h n l = omega arith
-standing_in (x ∷ g) i h zero l = omega arith
-standing_in (x ∷ g) zero h (suc n) l = absurd (omega arith)
-standing_in (x ∷ g) (suc i) h (suc n) l = by (is_of h x) (standing_in g i h n) (standing_in g i h (suc n)) l
+pub line_number_within : (g : List Line) (i h n : ℕ) → n ≤ records_before h g i → line_number g h n ≤ i
+line_number_within [] i h n l = omega arith
+line_number_within (x ∷ g) i h zero l = omega arith
+line_number_within (x ∷ g) zero h (suc n) l = absurd (omega arith)
+line_number_within (x ∷ g) (suc i) h (suc n) l = by (is_of h x) (line_number_within g i h n) (line_number_within g i h (suc n)) l
   where
-    by : (b : Bool) → (n ≤ records_before h g i → standing g h n ≤ i) → (suc n ≤ records_before h g i → standing g h (suc n) ≤ i) → suc n ≤ (if b then 1 else 0) + records_before h g i → suc (if b then standing g h n else standing g h (suc n)) ≤ suc i
-    by true f e l = let t : standing g h n ≤ i = f (omega arith) in omega arith
-    by false f e l = let t : standing g h (suc n) ≤ i = e (omega arith) in omega arith
+    by : (b : Bool) → (n ≤ records_before h g i → line_number g h n ≤ i) → (suc n ≤ records_before h g i → line_number g h (suc n) ≤ i) → suc n ≤ (if b then 1 else 0) + records_before h g i → suc (if b then line_number g h n else line_number g h (suc n)) ≤ suc i
+    by true f e l = let t : line_number g h n ≤ i = f (omega arith) in omega arith
+    by false f e l = let t : line_number g h (suc n) ≤ i = e (omega arith) in omega arith
 
-pub standing_behind : (g : List Line) (i h n : ℕ) → i ≤ length g → records_before h g i < n → i < standing g h n
-standing_behind [] i h n le l = omega arith
-standing_behind (x ∷ g) i h zero le l = absurd (omega arith)
-standing_behind (x ∷ g) zero h (suc n) le l = omega arith
-standing_behind (x ∷ g) (suc i) h (suc n) le l = by (is_of h x) (standing_behind g i h n (omega arith)) (standing_behind g i h (suc n) (omega arith)) l
+pub line_number_after : (g : List Line) (i h n : ℕ) → i ≤ length g → records_before h g i < n → i < line_number g h n
+line_number_after [] i h n le l = omega arith
+line_number_after (x ∷ g) i h zero le l = absurd (omega arith)
+line_number_after (x ∷ g) zero h (suc n) le l = omega arith
+line_number_after (x ∷ g) (suc i) h (suc n) le l = by (is_of h x) (line_number_after g i h n (omega arith)) (line_number_after g i h (suc n) (omega arith)) l
   where
-    by : (b : Bool) → (records_before h g i < n → i < standing g h n) → (records_before h g i < suc n → i < standing g h (suc n)) → (if b then 1 else 0) + records_before h g i < suc n → suc i < suc (if b then standing g h n else standing g h (suc n))
-    by true f e l = let t : i < standing g h n = f (omega arith) in omega arith
-    by false f e l = let t : i < standing g h (suc n) = e (omega arith) in omega arith
+    by : (b : Bool) → (records_before h g i < n → i < line_number g h n) → (records_before h g i < suc n → i < line_number g h (suc n)) → (if b then 1 else 0) + records_before h g i < suc n → suc i < suc (if b then line_number g h n else line_number g h (suc n))
+    by true f e l = let t : i < line_number g h n = f (omega arith) in omega arith
+    by false f e l = let t : i < line_number g h (suc n) = e (omega arith) in omega arith
 
 pub inside : (g : List Line) (i : ℕ) (l : Line) → get_elem? g i ≡ some l → i < length g
 inside [] i l at = absurd (some-ne-none l (sym at))
@@ -108,8 +108,8 @@ before_own g i h l at own =
 -- a record stands at one place
 pub one_place : (g : List Line) (h m i j : ℕ) (l k : Line) → IsRecord g i h m l → IsRecord g j h m k → (i ≡ j) × (l ≡ k)
 one_place g h m i j l k a b =
-    let p : standing g h m ≡ i + 1 = standing_of g i h m l a in
-    let q : standing g h m ≡ j + 1 = standing_of g j h m k b in
+    let p : line_number g h m ≡ i + 1 = line_number_of g i h m l a in
+    let q : line_number g h m ≡ j + 1 = line_number_of g j h m k b in
     let e : i ≡ j = omega arith in
     (e, some-injective l k (sym a.at ∙ (ap (get_elem? g) e ∙ b.at)))
 

@@ -7,8 +7,9 @@ use Rattle.pl_event.specs.declared.lines.Row.{Row}
 use Rattle.pl_event.specs.declared.log.Line.{Line}
 use Rattle.pl_event.specs.declared.log.Record.{Record}
 use Rattle.pl_event.specs.declared.packed.Packed.{Packed}
-use Rattle.pl_event.specs.Packing.{record_from}
-use Rattle.pl_event.specs.Rows.{no_arcs, arcs_at, line_from, lines_from, AreKept}
+use Rattle.pl_event.specs.inner.Packing.{record_from}
+use Rattle.pl_event.specs.Edges.{no_arcs}
+use Rattle.pl_event.specs.inner.Rows.{arcs_at, line_from, lines_from, AreKept}
 
 -- the rows before keep their arcs
 kept : (arcs : List (List (Option ℕ))) (a : List (Option ℕ)) (rows : List Row) → AllByRecursion (λ row. row.slot ≤ length arcs) rows → lines_from (arcs ++ a ∷ []) rows ≡ lines_from arcs rows

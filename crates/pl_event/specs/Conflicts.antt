@@ -6,10 +6,9 @@ use Rattle.pl_event.specs.declared.event.Kind.{Kind}
 use Rattle.pl_event.specs.declared.event.Kind.TheVariants.{Ld, St, Op, Mv, Im, Br, Jr, Al, Fr, Bf, Mp, Um, Rd, Wr, Ex, Ft}
 use Rattle.pl_event.specs.declared.log.Line.{Line}
 use Rattle.pl_event.specs.declared.log.Log.{Log}
-use Rattle.pl_event.specs.declared.log.Record.TheVariants as entry
 use Rattle.pl_event.specs.Alerts.{is_alert_kind}
 use Rattle.pl_event.specs.Graph.{Path}
-use Rattle.pl_event.specs.Records.{IsRecord}
+use Rattle.pl_event.specs.Records.{IsEvent}
 use Rattle.pl_event.specs.Edges.{IsNotice, Into}
 
 -- a block of memory, and whether it is written
@@ -17,7 +16,7 @@ pub record Access : Type 0 where
   pub block : ℕ
   pub store : Bool
 
--- what a load or a store touches, where a block has so many bytes. An access stands in one block, since it is aligned
+-- what a load or a store touches, where a block has so many bytes: one block, since an access is aligned
 abbrev pub access_of : ℕ → Kind → Option Access
 access_of size (Ld width rd rb addr) = Some (record { block = addr / size; store = false })
 access_of size (St width rv rb addr) = Some (record { block = addr / size; store = true })
@@ -42,27 +41,25 @@ ShareBlock None b = ⊥
 ShareBlock (Some a) None = ⊥
 ShareBlock (Some a) (Some b) = (a.block ≡ b.block) × ((a.store ≡ true) ⊎ (b.store ≡ true))
 
-abbrev pub IsAccess : Option Access → Type 0
-IsAccess None = ⊥
-IsAccess (Some a) = Unit {0}
+-- a load or a store
+abbrev pub is_access : Kind → Bool
+is_access (Ld width rd rb addr) = true
+is_access (St width rv rb addr) = true
+is_access _ = false
 
 -- a load, a store or an alert event
 abbrev pub IsConcerned : Kind → Type 0
-IsConcerned kind = IsAccess (access_of 1 kind) ⊎ IsTrue (is_alert_kind kind)
+IsConcerned kind = IsTrue (is_access kind) ⊎ IsTrue (is_alert_kind kind)
 
 -- one is an alert event, and the other concerns it
 abbrev pub MeetByAlert : Kind → Kind → Type 0
 MeetByAlert k l = (IsTrue (is_alert_kind k) × IsConcerned l) ⊎ (IsConcerned k × IsTrue (is_alert_kind l))
 
--- the event stands at position i, as record n of its hart
-abbrev pub StandsAt : List Line → ℕ → ℕ → Event → Type 0
-StandsAt lines i n event = (line : Line) × IsRecord lines i event.hart n line × (line.what ≡ entry.Event event)
-
 -- the events at positions i and j, records n and m of different harts
 pub record IsPair (lines : List Line) (i j : ℕ) (a : Event) (n : ℕ) (b : Event) (m : ℕ) : Type 0 where
   pub before : i < j
-  pub first : StandsAt lines i n a
-  pub second : StandsAt lines j m b
+  pub first : IsEvent lines i n a
+  pub second : IsEvent lines j m b
   pub apart : a.hart ≢ b.hart
 
 -- hart h has a notice of record n of hart u
@@ -73,7 +70,7 @@ HasNotice lines h u n = (k : ℕ) × IsNotice lines h k u n
 abbrev pub IsNoticed : List Line → Event → ℕ → Event → ℕ → Type 0
 IsNoticed lines a n b m = MatchBool (is_alert_kind a.kind) (HasNotice lines b.hart a.hart n) (HasNotice lines a.hart b.hart m)
 
--- each two conflicting events whose later one stands below position `upto` are ordered
+-- each two conflicting events are ordered, where the later one's position is below `upto`
 pub record AreOrdered (size : ℕ) (lines : List Line) (upto : ℕ) : Type 0 where
   pub accesses : (i j : ℕ) (a : Event) (n : ℕ) (b : Event) (m : ℕ) → j < upto → IsPair lines i j a n b m → ShareBlock (access_of size a.kind) (access_of size b.kind) → Path (Into lines) a.hart n b.hart m
   pub alerts : (i j : ℕ) (a : Event) (n : ℕ) (b : Event) (m : ℕ) → j < upto → IsPair lines i j a n b m → MeetByAlert a.kind b.kind → IsNoticed lines a n b m

@@ -1,9 +1,14 @@
 -- The edges between the harts of a log.
-use Rattle.std.specs.Prelude.{◌≡◌, ◌≢◌, ℕ, ◌+◌, ◌<◌, ◌≤◌, ◌⊎◌, List, Option, Some, None, slice_index_or}
+use Rattle.std.specs.Prelude.{◌≡◌, ◌≢◌, ℕ, ◌+◌, ◌<◌, ◌≤◌, ◌⊎◌, List, Option, Some, None, replicate, slice_index_or}
+use Rattle.pl_base.specs.declared.layout.TheConstants.{MAX_HARTS}
 use Rattle.pl_event.specs.declared.log.Line.{Line}
 use Rattle.pl_event.specs.declared.log.Record.{Record}
 use Rattle.pl_event.specs.declared.log.Record.TheVariants as entry
 use Rattle.pl_event.specs.Records.{records_before, IsRecord}
+
+-- no record has to come before
+abbrev pub no_arcs : List (Option ℕ)
+no_arcs = replicate MAX_HARTS None
 
 -- the source of a line's arc in hart u
 abbrev pub arc_of : Line → ℕ → Option ℕ

@@ -1,5 +1,5 @@
 -- How far the harts of a log are before a line.
-use Rattle.std.specs.Prelude.{◌≡◌, ℕ, ◌+◌, ◌<◌, List, length, take, max, slice_index, slice_index_or, Option, Some, None}
+use Rattle.std.specs.Prelude.{◌≡◌, ℕ, ◌+◌, ◌<◌, List, length, take, slice_index, slice_index_or, Some, None}
 use Rattle.pl_event.specs.declared.heads.Heads.{Heads}
 use Rattle.pl_event.specs.declared.log.Line.{Line}
 use Rattle.pl_event.specs.declared.log.Point.{Point}
@@ -7,17 +7,11 @@ use Rattle.pl_event.specs.Numbers.{events_of, events_on}
 use Rattle.pl_event.specs.Records.{records_before, IsRecord}
 use Rattle.pl_event.specs.Edges.{IsNotice}
 
--- the greater of two numbers that may be missing
-abbrev pub later : Option ℕ → Option ℕ → Option ℕ
-later None b = b
-later (Some x) None = Some x
-later (Some x) (Some y) = Some (max x y)
-
 -- the line of hart h at position i
 abbrev pub IsNext : List Line → ℕ → ℕ → Line → Type 0
 IsNext lines i h line = IsRecord lines i h (records_before h lines i + 1) line
 
--- what is told of the first i lines
+-- how many records and events each hart has among the first i lines, and the notice that is its last record there
 pub record Tells (heads : Heads) (lines : List Line) (i : ℕ) : Type 0 where
   pub place : heads.place ≡ length (events_of (take i lines))
   pub events : (h : ℕ) → h < 8 → slice_index heads.events h ≡ events_on h (events_of (take i lines))

@@ -1,5 +1,6 @@
 -- Which events a run can have.
 use Rattle.std.specs.Prelude.{◌≡◌, ℕ, ◌+◌, ◌%◌, ◌^◌, ◌<◌, ◌≤◌}
+use Rattle.pl_base.specs.declared.layout.TheConstants.{MAX_CALL_BYTES, MAX_MAPPED_PAGES, MEMORY_BYTES, PAGE_COUNT, REGISTERS}
 use Rattle.pl_base.specs.Widths.{load_bytes, store_bytes}
 use Rattle.pl_event.specs.declared.event.Kind.{Kind}
 use Rattle.pl_event.specs.declared.event.Kind.TheVariants.{Ld, St, Op, Mv, Im, Br, Jr, Al, Fr, Bf, Mp, Um, Rd, Wr, Ex, Ft}
@@ -7,19 +8,23 @@ use Rattle.pl_event.specs.declared.event.Event.{Event}
 
 -- one of 32 registers, or one of the two hidden ones
 abbrev pub IsRegister : ℕ → Type 0
-IsRegister register = register < 34
+IsRegister register = register < REGISTERS
 
 -- an address of memory that is a multiple of the width
 abbrev pub IsAligned : ℕ → ℕ → Type 0
-IsAligned addr width = (addr < 2 ^ 24) × (addr % width ≡ 0)
+IsAligned addr width = (addr < MEMORY_BYTES) × (addr % width ≡ 0)
+
+-- an address of 32 bits, which need not be one of memory
+abbrev pub IsWord : ℕ → Type 0
+IsWord addr = addr < 2 ^ 32
 
 -- 1 to 65,536 bytes of memory
 abbrev pub IsByteRange : ℕ → ℕ → Type 0
-IsByteRange addr len = (addr < 2 ^ 24) × (1 ≤ len) × (len ≤ 65536) × (addr + len ≤ 2 ^ 24)
+IsByteRange addr len = (addr < MEMORY_BYTES) × (1 ≤ len) × (len ≤ MAX_CALL_BYTES) × (addr + len ≤ MEMORY_BYTES)
 
 -- 1 to 512 pages of memory
 abbrev pub IsPageRange : ℕ → ℕ → Type 0
-IsPageRange page count = (page ≤ 4095) × (1 ≤ count) × (count ≤ 512) × (page + count ≤ 4096)
+IsPageRange page count = (page < PAGE_COUNT) × (1 ≤ count) × (count ≤ MAX_MAPPED_PAGES) × (page + count ≤ PAGE_COUNT)
 
 -- each field is in its range
 abbrev pub HasValidFields : Kind → Type 0
@@ -32,13 +37,13 @@ HasValidFields (Br r1 r2) = IsRegister r1 × IsRegister r2
 HasValidFields (Jr rd rs) = IsRegister rd × IsRegister rs
 HasValidFields (Al addr len) = IsByteRange addr len
 HasValidFields (Fr addr len) = IsByteRange addr len
-HasValidFields (Bf addr) = Unit {0}
+HasValidFields (Bf addr) = IsWord addr
 HasValidFields (Mp page count) = IsPageRange page count
 HasValidFields (Um page count) = IsPageRange page count
 HasValidFields (Rd addr len) = IsByteRange addr len
 HasValidFields (Wr addr len) = IsByteRange addr len
 HasValidFields Ex = Unit {0}
-HasValidFields (Ft cause addr) = Unit {0}
+HasValidFields (Ft cause addr) = IsWord addr
 
 -- an event of a run of so many harts
 abbrev pub IsValidEvent : Event → ℕ → Type 0

@@ -1,7 +1,9 @@
+//! Events: what happened on one hart.
 ghost use Rattle.std.specs.Prelude.{◌≡◌, ◌↔◌, ◌<◌, IsTrue};
 ghost use Rattle.pl_event.specs.Alerts.{is_alert_kind};
 ghost use Rattle.pl_event.specs.Valid.{IsValidEvent, HasValidFields, IsRegister, IsAligned, IsByteRange, IsPageRange};
 
+use pl_base::layout::{MAX_CALL_BYTES, MAX_MAPPED_PAGES, MEMORY_BYTES, PAGE_COUNT, REGISTERS};
 use pl_base::{FaultCause, LoadWidth, StoreWidth};
 
 /// What happened. Registers are from 0 to 33, the last two hidden; addresses are below 2^24 except where a kind says
@@ -145,31 +147,32 @@ fn has_valid_fields(kind: Kind) -> bool
         Kind::Al { addr, len } | Kind::Fr { addr, len } => is_byte_range(addr, len),
         Kind::Rd { addr, len } | Kind::Wr { addr, len } => is_byte_range(addr, len),
         Kind::Mp { page, count } | Kind::Um { page, count } => is_page_range(page, count),
-        Kind::Bf { .. } | Kind::Ex | Kind::Ft { .. } => true,
+        Kind::Bf { .. } | Kind::Ft { .. } | Kind::Ex => true,
     }
 }
 
 fn is_register(register: u8) -> bool
     ensures { IsTrue result ↔ IsRegister register }
 {
-    register < 34
+    register < REGISTERS
 }
 
 fn is_aligned(addr: u32, width: u8) -> bool
     requires { 0 < width }
     ensures { IsTrue result ↔ IsAligned addr width }
 {
-    addr < 0x0100_0000 && addr % u32::from(width) == 0
+    addr < MEMORY_BYTES && addr % u32::from(width) == 0
 }
 
 fn is_byte_range(addr: u32, len: u32) -> bool
     ensures { IsTrue result ↔ IsByteRange addr len }
 {
-    addr < 0x0100_0000 && len >= 1 && len <= 65_536 && addr + len <= 0x0100_0000
+    addr < MEMORY_BYTES && len >= 1 && len <= MAX_CALL_BYTES && addr + len <= MEMORY_BYTES
 }
 
 fn is_page_range(page: u16, count: u16) -> bool
     ensures { IsTrue result ↔ IsPageRange page count }
 {
-    page <= 4095 && count >= 1 && count <= 512 && page + count <= 4096
+    let (page, count) = (u32::from(page), u32::from(count));
+    page < PAGE_COUNT && count >= 1 && count <= MAX_MAPPED_PAGES && page + count <= PAGE_COUNT
 }

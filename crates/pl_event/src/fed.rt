@@ -1,3 +1,4 @@
+//! A line as a worker takes it, and where such lines come from.
 ghost use Rattle.std.specs.Prelude.{◌≡◌, [], ◌∷◌, List, IfOk, OnErr, MatchOption};
 
 use crate::log::{Arcs, Line};

@@ -1,3 +1,4 @@
+//! The lines of a hart as a worker takes them.
 ghost use Rattle.std.specs.Prelude.{◌≡◌, ◌^◌, ◌<◌, ◌≤◌, length, IfOk};
 ghost use Rattle.pl_event.specs.Edges.{IsFlow};
 ghost use Rattle.pl_event.specs.Feeds.{feds_of};

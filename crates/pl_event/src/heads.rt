@@ -1,3 +1,4 @@
+//! How far each hart of a log is, line by line.
 ghost use Rattle.std.specs.Prelude.{◌≡◌, ℕ, ◌+◌, ◌-◌, ◌^◌, ◌<◌, ◌≤◌, List, slice_index, slice_index_or, Some};
 ghost use Rattle.pl_event.specs.declared.log.Line.{Line};
 ghost use Rattle.pl_event.specs.Numbers.{hart_of};
@@ -5,7 +6,7 @@ ghost use Rattle.pl_event.specs.Records.{records_before};
 ghost use Rattle.pl_event.specs.Edges.{IsNotice, IsAfter, IsFlow};
 ghost use Rattle.pl_event.specs.Needs.{IsMost, need_of, needs_of};
 ghost use Rattle.pl_event.specs.Feeds.{fed_at};
-ghost use Rattle.pl_event.specs.Heads.{later};
+ghost use Rattle.pl_event.specs.inner.Later.{later};
 
 use crate::fed::Fed;
 use crate::log::{Arcs, Line, Point, Record};

@@ -14,6 +14,7 @@ mod lines;
 mod log;
 mod order;
 mod packed;
+mod runs;
 mod streams;
 #[cfg(test)]
 mod tests;
@@ -24,4 +25,5 @@ pub use feeds::fed_of;
 pub use lines::Lines;
 pub use log::{Arcs, Line, Log, PageKind, PageRun, PageRuns, Point, Record};
 pub use order::log_paths;
+pub use runs::mapped_pages;
 pub use streams::{record_hart, stream};

@@ -1,5 +1,6 @@
+//! The lines of a log, packed.
 ghost use Rattle.std.specs.Prelude.{◌≡◌, ◌<◌, ◌≤◌, length};
-ghost use Rattle.pl_event.specs.Rows.{arcs_at};
+ghost use Rattle.pl_event.specs.inner.Rows.{arcs_at};
 
 use crate::log::{Arcs, Line, Record};
 use crate::packed::{Packed, pack, unpack};
@@ -25,7 +26,7 @@ pub struct Lines {
 impl Model for Lines {
     ghost use Rattle.std.specs.Prelude.{List};
     ghost use Rattle.pl_event.specs.declared.log.Line.{Line};
-    ghost use Rattle.pl_event.specs.Rows.{lines_from, AreKept};
+    ghost use Rattle.pl_event.specs.inner.Rows.{lines_from, AreKept};
 
     ghost Value = { List Line };
 

@@ -1,3 +1,4 @@
+//! Logs: lines with their records and arcs, the pages at the start, harts and the size of blocks.
 ghost use Rattle.std.specs.Prelude.{◌≡◌, ◌<◌, Some, None, replicate, slice_get};
 
 use crate::event::Event;

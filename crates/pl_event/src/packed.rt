@@ -1,5 +1,6 @@
+//! A record in 12 bytes.
 ghost use Rattle.std.specs.Prelude.{◌≡◌};
-ghost use Rattle.pl_event.specs.Packing.{record_from};
+ghost use Rattle.pl_event.specs.inner.Packing.{record_from};
 
 use crate::event::{Event, Kind};
 use crate::log::{Point, Record};

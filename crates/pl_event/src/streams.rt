@@ -1,3 +1,4 @@
+//! The records of a hart.
 ghost use Rattle.std.specs.Prelude.{◌≡◌, ◌<◌, ◌^◌, length, IfOk, ◌==◌};
 ghost use Rattle.pl_event.specs.Numbers.{positions_from, hart_of};
 

@@ -1,14 +1,13 @@
 use Rattle.std.proofs.Common.{◌≡◌, ℕ, subst, sym}
-use Rattle.order_core.specs.declared.course.Operation.{Operation}
+use Rattle.order_core.specs.declared.course.Op.{Op}
 use Rattle.order_core.specs.Lanes.{covers, Lands}
-use Rattle.order_core.specs.Places.{loose}
 use Rattle.order_core.proofs.Words.{joined_lanes, picked, lands}
 use Rattle.order_core.proofs.lanes.put_lanes.Goals as goal
 
 pub returns : goal.returns
 unfolding covers
 returns c =
-    let o : Operation = loose c.args.op in
+    let o : Op = c.args.op in
     let x : ℕ = c.args.word in
     let p : c.lane_after-a.result ≡ picked o x 0 = c.lane_after-a.ensures in
     let q : c.lane_after-b.result ≡ picked o x 1 = c.lane_after-b.ensures in

@@ -12,7 +12,7 @@ use Rattle.order_core.proofs.moves.advertise.Goals as goal
 pub bounds-state-hart : goal.bounds-state-hart
 bounds-state-hart g c =
     let plan = c.args.plan.now in
-    let k : Course = course_of (g.P.Plan.log plan) (g.P.Plan.opening plan) (g.P.Plan.operations plan) in
+    let k : Course = course_of (g.P.Plan.planned plan) in
     let is : Known k = known k (g.met.P.Plan.lawful plan) in
     let harts : c.harts.result ≡ k.log.harts = c.harts.ensures in
     let low : c.args.hart < k.log.harts = omega arith in
@@ -22,12 +22,12 @@ bounds-state-hart g c =
 pub returns-then-upto-own-clause-refused : goal.returns-then-upto-own-clause-refused
 returns-then-upto-own-clause-refused g c _ may =
     let plan = c.args.plan.now in
-    let k : Course = course_of (g.P.Plan.log plan) (g.P.Plan.opening plan) (g.P.Plan.operations plan) in
+    let k : Course = course_of (g.P.Plan.planned plan) in
     let is : Known k = known k (g.met.P.Plan.lawful plan) in
     let harts : c.harts.result ≡ k.log.harts = c.harts.ensures in
     let low : c.args.hart < k.log.harts = omega arith in
     let own : HartState = hart_in c.args.state.now.harts c.args.hart in
-    let below : c.args.upto < own.next.number = passed_below (g.P.Plan.log plan) (g.P.Plan.opening plan) (g.P.Plan.operations plan) is c.args.hart own (kept (g.P.Plan.log plan) (g.P.Plan.opening plan) (g.P.Plan.operations plan) is c.args.state.now c.requires.fits c.args.hart low) c.args.upto may.2 in
+    let below : c.args.upto < own.next.number = passed_below (g.P.Plan.planned plan) is c.args.hart own (kept (g.P.Plan.planned plan) is c.args.state.now c.requires.fits c.args.hart low) c.args.upto may.2 in
     let up : own.progress ≤ c.args.upto = may.1 in
     elim c.then-upto-own.branch [
       | then-upto-own-via-then-upto-own w ↦ omega arith
@@ -37,11 +37,11 @@ returns-then-upto-own-clause-refused g c _ may =
 pub met_up_to-met-requires-clause-met : goal.met_up_to-met-requires-clause-met
 met_up_to-met-requires-clause-met g c =
     let plan = c.args.plan.now in
-    let k : Course = course_of (g.P.Plan.log plan) (g.P.Plan.opening plan) (g.P.Plan.operations plan) in
+    let k : Course = course_of (g.P.Plan.planned plan) in
     let is : Known k = known k (g.met.P.Plan.lawful plan) in
     let harts : c.harts.result ≡ k.log.harts = c.harts.ensures in
     let low : c.args.hart < k.log.harts = omega arith in
-    (kept (g.P.Plan.log plan) (g.P.Plan.opening plan) (g.P.Plan.operations plan) is c.args.state.now c.requires.fits c.args.hart low).met
+    (kept (g.P.Plan.planned plan) is c.args.state.now c.requires.fits c.args.hart low).met
 
 pub returns-then-met-upto-clause-refused : goal.returns-then-met-upto-clause-refused
 returns-then-met-upto-clause-refused g c _ may =
@@ -51,18 +51,18 @@ returns-then-met-upto-clause-refused g c _ may =
 pub returns-clause-fits : goal.returns-clause-fits
 returns-clause-fits g c _ =
     let plan = c.args.plan.now in
-    let k : Course = course_of (g.P.Plan.log plan) (g.P.Plan.opening plan) (g.P.Plan.operations plan) in
+    let k : Course = course_of (g.P.Plan.planned plan) in
     let is : Known k = known k (g.met.P.Plan.lawful plan) in
     let harts : c.harts.result ≡ k.log.harts = c.harts.ensures in
     let low : c.args.hart < k.log.harts = omega arith in
     let own : HartState = hart_in c.args.state.now.harts c.args.hart in
-    kept_fits (g.P.Plan.log plan) (g.P.Plan.opening plan) (g.P.Plan.operations plan) is c.args.state.now c.requires.fits c.args.hart low (record own { progress = c.args.upto; met = c.met_up_to-met.result })
-    (met_kept (g.P.Plan.log plan) (g.P.Plan.opening plan) (g.P.Plan.operations plan) is c.args.hart own (kept (g.P.Plan.log plan) (g.P.Plan.opening plan) (g.P.Plan.operations plan) is c.args.state.now c.requires.fits c.args.hart low) c.met_up_to-met.result c.args.upto c.met_up_to-met.ensures.met c.met_up_to-met.ensures.low) (omega arith) refl
+    kept_fits (g.P.Plan.planned plan) is c.args.state.now c.requires.fits c.args.hart low (record own { progress = c.args.upto; met = c.met_up_to-met.result })
+    (met_kept (g.P.Plan.planned plan) is c.args.hart own (kept (g.P.Plan.planned plan) is c.args.state.now c.requires.fits c.args.hart low) c.met_up_to-met.result c.args.upto c.met_up_to-met.ensures.met c.met_up_to-met.ensures.low) (omega arith) refl
 
 pub returns-clause-made : goal.returns-clause-made
 returns-clause-made g c _ =
     let plan = c.args.plan.now in
-    let k : Course = course_of (g.P.Plan.log plan) (g.P.Plan.opening plan) (g.P.Plan.operations plan) in
+    let k : Course = course_of (g.P.Plan.planned plan) in
     let is : Known k = known k (g.met.P.Plan.lawful plan) in
     let harts : c.harts.result ≡ k.log.harts = c.harts.ensures in
     let low : c.args.hart < k.log.harts = omega arith in
@@ -70,4 +70,4 @@ returns-clause-made g c _ =
     let up : own.progress ≤ c.args.upto = omega arith in
     let below : c.args.upto < own.next.number = omega arith in
     let le : c.args.upto ≤ c.met_up_to-met.result = omega arith in
-    ((low, up, passed_up (g.P.Plan.log plan) (g.P.Plan.opening plan) (g.P.Plan.operations plan) is c.args.hart own (kept (g.P.Plan.log plan) (g.P.Plan.opening plan) (g.P.Plan.operations plan) is c.args.state.now c.requires.fits c.args.hart low) c.args.upto c.met_up_to-met.result below le c.met_up_to-met.ensures.met), advertise_made (g.P.Plan.log plan) (g.P.Plan.opening plan) (g.P.Plan.operations plan) is c.args.state.now c.requires.fits c.args.hart low c.args.upto c.met_up_to-met.result)
+    ((low, up, passed_up (g.P.Plan.planned plan) is c.args.hart own (kept (g.P.Plan.planned plan) is c.args.state.now c.requires.fits c.args.hart low) c.args.upto c.met_up_to-met.result below le c.met_up_to-met.ensures.met), advertise_made (g.P.Plan.planned plan) is c.args.state.now c.requires.fits c.args.hart low c.args.upto c.met_up_to-met.result)

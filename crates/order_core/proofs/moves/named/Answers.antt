@@ -10,7 +10,7 @@ use Rattle.order_core.proofs.moves.named.Goals as goal
 pub returns-then-harts-hart-clause-none : goal.returns-then-harts-hart-clause-none
 returns-then-harts-hart-clause-none g c _ p a at name =
     let plan = c.args.plan.now in
-    let k : Course = course_of (g.P.Plan.log plan) (g.P.Plan.opening plan) (g.P.Plan.operations plan) in
+    let k : Course = course_of (g.P.Plan.planned plan) in
     let is : Known k = known k (g.met.P.Plan.lawful plan) in
     let inside : IsInside k a = is.inside p a at in
     let low : c.args.hart < k.log.harts = subst (λ (z : ℕ). z < k.log.harts) name.0 inside.hart in
@@ -26,4 +26,4 @@ returns-then-harts-hart-clause-none g c _ p a at name =
 pub returns-clause-none : goal.returns-clause-none
 returns-clause-none g c none p a at name =
     let plan = c.args.plan.now in
-    op_none (g.P.Plan.log plan) (g.P.Plan.opening plan) (g.P.Plan.operations plan) c.args.hart c.args.number c.args.op (sym c.op.ensures ∙ none) p a at name
+    op_none (g.P.Plan.planned plan) c.args.hart c.args.number c.args.op (sym c.op.ensures ∙ none) p a at name

@@ -4,4 +4,4 @@ use Rattle.order_core.specs.Core.{IsMet}
 use Rattle.order_core.proofs.needs.met_up_to.Given as goal
 
 abbrev pub invariant-loop-number : goal.invariant-loop-number
-invariant-loop-number g l = IsMet (course_of (g.P.Plan.log l.plan) (g.P.Plan.opening l.plan) (g.P.Plan.operations l.plan)) (slice_index l.seen) l.hart l.number
+invariant-loop-number g l = IsMet (course_of (g.P.Plan.planned l.plan)) (slice_index l.seen) l.hart l.number

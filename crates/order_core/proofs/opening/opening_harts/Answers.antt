@@ -13,7 +13,7 @@ use Rattle.order_core.proofs.opening.opening_harts.Goals as goal
 pub bounds-harts-hart : goal.bounds-harts-hart
 bounds-harts-hart g c =
     let plan = c.args.plan.now in
-    let k : Course = course_of (g.P.Plan.log plan) (g.P.Plan.opening plan) (g.P.Plan.operations plan) in
+    let k : Course = course_of (g.P.Plan.planned plan) in
     let is : Known k = known k (g.met.P.Plan.lawful plan) in
     let end : c.harts-hart-end.result ≡ k.log.harts = c.harts-hart-end.ensures in
     let eight : k.log.harts ≤ 8 = is.harts in
@@ -22,7 +22,7 @@ bounds-harts-hart g c =
 pub loop-hart-preserved : goal.loop-hart-preserved
 loop-hart-preserved g c =
     let plan = c.args.plan.now in
-    let k : Course = course_of (g.P.Plan.log plan) (g.P.Plan.opening plan) (g.P.Plan.operations plan) in
+    let k : Course = course_of (g.P.Plan.planned plan) in
     let is : Known k = known k (g.met.P.Plan.lawful plan) in
     let end : c.harts-hart-end.result ≡ k.log.harts = c.harts-hart-end.ensures in
     let eight : k.log.harts ≤ 8 = is.harts in
@@ -36,6 +36,6 @@ loop-hart-preserved g c =
     (λ ne. subst IsFresh (sym (set_else c.loop-hart.harts i h x idle ne)) (c.loop-hart.invariant.1 h))) in
     let kept : (h : ℕ) → h < i + 1 → IsKept k h (hart_in (slice_set c.loop-hart.harts i x) h) = (λ h l. dite (ℕ_discrete h i)
     (λ e. subst (λ (z : ℕ). IsKept k z (hart_in (slice_set c.loop-hart.harts i x) z)) (sym e) (subst (IsKept k i) (sym here)
-    (starts_kept (g.P.Plan.log plan) (g.P.Plan.opening plan) (g.P.Plan.operations plan) is i c.seek-next.result c.seek-next.ensures.from_one c.seek-next.ensures.within c.seek-next.ensures.count c.seek-next.ensures.there)))
+    (starts_kept (g.P.Plan.planned plan) is i c.seek-next.result c.seek-next.ensures.from_one c.seek-next.ensures.within c.seek-next.ensures.count c.seek-next.ensures.there)))
     (λ ne. subst (IsKept k h) (sym (set_else c.loop-hart.harts i h x idle ne)) (c.loop-hart.invariant.2 h (let o : h ≡ i → ⊥ = ne in omega arith)))) in
     (same_length c.loop-hart.harts i x ∙ same, fresh, kept)

@@ -5,5 +5,5 @@ use Rattle.order_core.proofs.opening.opening_harts.Given as goal
 
 abbrev pub invariant-loop-hart : goal.invariant-loop-hart
 invariant-loop-hart g l =
-    let c = course_of (g.P.Plan.log l.plan) (g.P.Plan.opening l.plan) (g.P.Plan.operations l.plan) in
+    let c = course_of (g.P.Plan.planned l.plan) in
     (length l.harts ≡ 8) × ((h : ℕ) → IsFresh (hart_in l.harts h)) × ((h : ℕ) → h < l.hart → IsKept c h (hart_in l.harts h))

@@ -13,7 +13,7 @@ use Rattle.order_core.proofs.run.cursors_now.Goals as goal
 pub loop-hart-preserved : goal.loop-hart-preserved
 loop-hart-preserved g c =
     let plan = c.args.plan.now in
-    let k : Course = course_of (g.P.Plan.log plan) (g.P.Plan.opening plan) (g.P.Plan.operations plan) in
+    let k : Course = course_of (g.P.Plan.planned plan) in
     let is : Known k = known k (g.met.P.Plan.lawful plan) in
     let end : c.harts-hart-end.result ≡ k.log.harts = c.harts-hart-end.ensures in
     let eight : k.log.harts ≤ 8 = is.harts in

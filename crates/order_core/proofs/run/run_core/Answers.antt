@@ -1,100 +1,62 @@
-use Rattle.std.proofs.Common.{rules, ◌≡◌, ℕ, suc, ◌+◌, ◌<◌, ◌≤◌, ◌^◌, List, length, take, get_or, Some, slice_get, ap, subst, inl, arith}
+use Rattle.std.proofs.Common.{◌≡◌}
 use Rattle.order_core.specs.declared.course.Course.{Course}
 use Rattle.order_core.specs.Course.{course_of}
 use Rattle.order_core.specs.States.{core_of}
 use Rattle.order_core.proofs.Known.{Known, known}
-use Rattle.std.proofs.lemmas.List.{length-take-le}
-use Rattle.order_core.specs.declared.steps.Act.TheVariants.{See}
-use Rattle.order_core.specs.declared.steps.CoreStep.{CoreStep}
-use Rattle.order_core.specs.declared.refused.CoreRefused.TheVariants.{NotAble}
-use Rattle.order_core.specs.Core.{opening_core}
-use Rattle.order_core.specs.Runs.{IsReached}
-use Rattle.order_core.specs.Outcomes.{IsFirstRefused}
-use Rattle.order_core.proofs.RunLemmas.{get_there, run_next, few_writes, not_whole, one_first}
-use Rattle.order_core.proofs.Outcome.{reads_hold, stands_hold, words_hold}
+use Rattle.order_core.proofs.KnownLaws as law
+use Rattle.order_core.proofs.RunLemmas.{not_whole, one_first, refused_at}
 use Rattle.order_core.proofs.Walks.{names, short}
-use Rattle.order_core.proofs.WordLemmas.{take_all}
 use Rattle.order_core.proofs.run.run_core.Goals as goal
 
-pub returns-in_err-words-clause-reads : goal.returns-in_err-words-clause-reads
-returns-in_err-words-clause-reads g c =
-    let plan = c.args.plan.now in
-    let k : Course = course_of (g.P.Plan.log plan) (g.P.Plan.opening plan) (g.P.Plan.operations plan) in
-    reads_hold k (g.met.P.Plan.lawful plan) c.args.steps.now
+pub returns-in_err-opening_words-clause-reads : goal.returns-in_err-opening_words-clause-reads
+returns-in_err-opening_words-clause-reads g c =
+    let k : Course = course_of (g.P.Plan.planned c.args.plan.now) in
+    law.reads_are_sequential k (g.met.P.Plan.lawful c.args.plan.now) c.args.steps.now
 
-pub make-requires-clause-few : goal.make-requires-clause-few
-make-requires-clause-few g c =
-    let plan = c.args.plan.now in
-    let k : Course = course_of (g.P.Plan.log plan) (g.P.Plan.opening plan) (g.P.Plan.operations plan) in
-    let is : Known k = known k (g.met.P.Plan.lawful plan) in
-    let s : CoreStep = get_or c.args.steps.now c.loop-at.at (record { hart = 0; act = See 0 }) in
-    let few : (core_of c.loop-at.state).written s.hart ≤ (opening_core k).written s.hart + length (take c.loop-at.at c.args.steps.now) = few_writes k s.hart (opening_core k) (take c.loop-at.at c.args.steps.now) (core_of c.loop-at.state) c.loop-at.invariant.1 in
-    let at : length (take c.loop-at.at c.args.steps.now) ≡ c.loop-at.at = length-take-le c.loop-at.at c.args.steps.now (omega arith) in
-    let all : length c.args.steps.now < 2 ^ 32 = c.requires in
-    omega arith
-
-pub returns-then-not-make-clause-reads : goal.returns-then-not-make-clause-reads
-returns-then-not-make-clause-reads g c =
-    let plan = c.args.plan.now in
-    let k : Course = course_of (g.P.Plan.log plan) (g.P.Plan.opening plan) (g.P.Plan.operations plan) in
-    reads_hold k (g.met.P.Plan.lawful plan) c.args.steps.now
-
-pub returns-then-not-make-clause-refused : goal.returns-then-not-make-clause-refused
-returns-then-not-make-clause-refused g c =
-    let plan = c.args.plan.now in
-    let k : Course = course_of (g.P.Plan.log plan) (g.P.Plan.opening plan) (g.P.Plan.operations plan) in
-    let is : Known k = known k (g.met.P.Plan.lawful plan) in
-    let s : CoreStep = get_or c.args.steps.now c.loop-at.at (record { hart = 0; act = See 0 }) in
-    let there : slice_get c.args.steps.now c.loop-at.at ≡ Some s = get_there c.args.steps.now c.loop-at.at (record { hart = 0; act = See 0 }) (omega arith) in
-    let f = c.if-not-make.true in
-    let first : IsFirstRefused k c.args.steps.now c.loop-at.at = record { step = s; there = there; before = core_of c.loop-at.state; reached = c.loop-at.invariant.1; refused = c.make.ensures.refused (search rules) } in
-    first
-
-pub returns-then-not-make-clause-exact : goal.returns-then-not-make-clause-exact
-returns-then-not-make-clause-exact g c at other =
-    let plan = c.args.plan.now in
-    let k : Course = course_of (g.P.Plan.log plan) (g.P.Plan.opening plan) (g.P.Plan.operations plan) in
-    let is : Known k = known k (g.met.P.Plan.lawful plan) in
-    let s : CoreStep = get_or c.args.steps.now c.loop-at.at (record { hart = 0; act = See 0 }) in
-    let there : slice_get c.args.steps.now c.loop-at.at ≡ Some s = get_there c.args.steps.now c.loop-at.at (record { hart = 0; act = See 0 }) (omega arith) in
-    let f = c.if-not-make.true in
-    let first : IsFirstRefused k c.args.steps.now c.loop-at.at = record { step = s; there = there; before = core_of c.loop-at.state; reached = c.loop-at.invariant.1; refused = c.make.ensures.refused (search rules) } in
-    inl (ap (λ (z : ℕ). NotAble z) (one_first k (names (g.P.Plan.log plan) (g.P.Plan.opening plan) (g.P.Plan.operations plan) is) (short (g.P.Plan.log plan) (g.P.Plan.opening plan) (g.P.Plan.operations plan) is) c.args.steps.now c.loop-at.at at first other))
-
-pub loop-at-preserved : goal.loop-at-preserved
-loop-at-preserved g c =
-    let plan = c.args.plan.now in
-    let k : Course = course_of (g.P.Plan.log plan) (g.P.Plan.opening plan) (g.P.Plan.operations plan) in
-    let is : Known k = known k (g.met.P.Plan.lawful plan) in
-    let s : CoreStep = get_or c.args.steps.now c.loop-at.at (record { hart = 0; act = See 0 }) in
-    let there : slice_get c.args.steps.now c.loop-at.at ≡ Some s = get_there c.args.steps.now c.loop-at.at (record { hart = 0; act = See 0 }) (omega arith) in
-    let f = c.if-not-make.false in
-    let next : IsReached k (take (suc c.loop-at.at) c.args.steps.now) (core_of c.make.new.state) = run_next k (opening_core k) c.args.steps.now c.loop-at.at s (core_of c.loop-at.state) (core_of c.make.new.state) there c.loop-at.invariant.1 (c.make.ensures.made (search rules)) in
-    let one : suc c.loop-at.at ≡ c.loop-at.at + 1 = omega arith in
-    (c.make.ensures.fits (search rules), subst (λ (z : ℕ). IsReached k (take z c.args.steps.now) (core_of c.make.new.state)) one next)
-
-pub returns-clause-stands : goal.returns-clause-stands
-returns-clause-stands g c =
-    let plan = c.args.plan.now in
-    let k : Course = course_of (g.P.Plan.log plan) (g.P.Plan.opening plan) (g.P.Plan.operations plan) in
-    stands_hold k (g.met.P.Plan.lawful plan) (take c.loop-at.at c.args.steps.now) (core_of c.loop-at.state) c.loop-at.invariant.1
+pub returns-in_err-make_all-clause-reads : goal.returns-in_err-make_all-clause-reads
+returns-in_err-make_all-clause-reads g c =
+    let k : Course = course_of (g.P.Plan.planned c.args.plan.now) in
+    law.reads_are_sequential k (g.met.P.Plan.lawful c.args.plan.now) c.args.steps.now
 
 pub returns-clause-reads : goal.returns-clause-reads
 returns-clause-reads g c =
-    let plan = c.args.plan.now in
-    let k : Course = course_of (g.P.Plan.log plan) (g.P.Plan.opening plan) (g.P.Plan.operations plan) in
-    reads_hold k (g.met.P.Plan.lawful plan) c.args.steps.now
+    let k : Course = course_of (g.P.Plan.planned c.args.plan.now) in
+    law.reads_are_sequential k (g.met.P.Plan.lawful c.args.plan.now) c.args.steps.now
+
+pub returns-in_err-make_all-clause-exact : goal.returns-in_err-make_all-clause-exact
+returns-in_err-make_all-clause-exact g c at other =
+    let k : Course = course_of (g.P.Plan.planned c.args.plan.now) in
+    let is : Known k = known k (g.met.P.Plan.lawful c.args.plan.now) in
+    let same : c.in_err-make_all.field-0.0.at ≡ at = one_first k (names (g.P.Plan.planned c.args.plan.now) is) (short (g.P.Plan.planned c.args.plan.now) is) c.args.steps.now c.in_err-make_all.field-0.0.at at c.in_err-make_all.ensures.refused other in
+    refused_at c.from_residual-in_err-make_all.result c.in_err-make_all.field-0.0.at at c.from_residual-in_err-make_all.ensures.1 same
+
+pub returns-clause-consistent : goal.returns-clause-consistent
+returns-clause-consistent g c =
+    let k : Course = course_of (g.P.Plan.planned c.args.plan.now) in
+    law.consistent k (g.met.P.Plan.lawful c.args.plan.now) c.args.steps.now (core_of c.make_all.new.state) c.in_ok-make_all.ensures.made
+
+pub returns-clause-late : goal.returns-clause-late
+returns-clause-late g c h p a may s k' m leaves =
+    let k : Course = course_of (g.P.Plan.planned c.args.plan.now) in
+    law.stays_open k (g.met.P.Plan.lawful c.args.plan.now) (core_of c.make_all.new.state) (law.consistent k (g.met.P.Plan.lawful c.args.plan.now) c.args.steps.now (core_of c.make_all.new.state) c.in_ok-make_all.ensures.made) h p a may s k' m leaves
 
 pub returns-clause-last : goal.returns-clause-last
-returns-clause-last g c =
-    let plan = c.args.plan.now in
-    let k : Course = course_of (g.P.Plan.log plan) (g.P.Plan.opening plan) (g.P.Plan.operations plan) in
-    words_hold k (g.met.P.Plan.lawful plan) (take c.loop-at.at c.args.steps.now) (core_of c.loop-at.state) c.loop-at.invariant.1
+returns-clause-last g c end w j low high four =
+    let k : Course = course_of (g.P.Plan.planned c.args.plan.now) in
+    law.finishes k (g.met.P.Plan.lawful c.args.plan.now) (core_of c.make_all.new.state) (law.consistent k (g.met.P.Plan.lawful c.args.plan.now) c.args.steps.now (core_of c.make_all.new.state) c.in_ok-make_all.ensures.made) end w j low high four
+
+pub returns-clause-moves : goal.returns-clause-moves
+returns-clause-moves g c unfinished =
+    let k : Course = course_of (g.P.Plan.planned c.args.plan.now) in
+    law.moves k (g.met.P.Plan.lawful c.args.plan.now) (core_of c.make_all.new.state) (law.consistent k (g.met.P.Plan.lawful c.args.plan.now) c.args.steps.now (core_of c.make_all.new.state) c.in_ok-make_all.ensures.made) unfinished
+
+pub returns-clause-bound : goal.returns-clause-bound
+returns-clause-bound g c more k' m =
+    let k : Course = course_of (g.P.Plan.planned c.args.plan.now) in
+    law.few_moves k (g.met.P.Plan.lawful c.args.plan.now) c.args.steps.now (core_of c.make_all.new.state) c.in_ok-make_all.ensures.made more k' m
 
 pub returns-clause-exact : goal.returns-clause-exact
 returns-clause-exact g c at first =
-    let plan = c.args.plan.now in
-    let k : Course = course_of (g.P.Plan.log plan) (g.P.Plan.opening plan) (g.P.Plan.operations plan) in
-    let is : Known k = known k (g.met.P.Plan.lawful plan) in
-    let whole : IsReached k c.args.steps.now (core_of c.loop-at.state) = subst (λ (z : List CoreStep). IsReached k z (core_of c.loop-at.state)) (take_all c.args.steps.now c.loop-at.at c.loop-at-test.false) c.loop-at.invariant.1 in
-    not_whole k (names (g.P.Plan.log plan) (g.P.Plan.opening plan) (g.P.Plan.operations plan) is) (short (g.P.Plan.log plan) (g.P.Plan.opening plan) (g.P.Plan.operations plan) is) c.args.steps.now at (core_of c.loop-at.state) first whole
+    let k : Course = course_of (g.P.Plan.planned c.args.plan.now) in
+    let is : Known k = known k (g.met.P.Plan.lawful c.args.plan.now) in
+    not_whole k (names (g.P.Plan.planned c.args.plan.now) is) (short (g.P.Plan.planned c.args.plan.now) is) c.args.steps.now at (core_of c.make_all.new.state) first c.in_ok-make_all.ensures.made

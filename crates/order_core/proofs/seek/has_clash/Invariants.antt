@@ -5,7 +5,7 @@ use Rattle.order_core.proofs.seek.has_clash.Given as goal
 
 abbrev pub invariant-loop-to : goal.invariant-loop-to
 invariant-loop-to g l =
-    let c = course_of (g.P.Plan.log l.plan) (g.P.Plan.opening l.plan) (g.P.Plan.operations l.plan) in
+    let c = course_of (g.P.Plan.planned l.plan) in
     (1 ≤ l.at.number) × (l.at.op ≤ 4294967295) × (place l.initial.at.number l.initial.at.op ≤ place l.at.number l.at.op)
     × (ClashesBetween c l.hart l.read (place l.initial.at.number l.initial.at.op) (place l.at.number l.at.op) → ⊥)
 

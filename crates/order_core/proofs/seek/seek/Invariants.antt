@@ -6,7 +6,7 @@ use Rattle.order_core.proofs.seek.seek.Given as goal
 
 abbrev pub invariant-loop-at : goal.invariant-loop-at
 invariant-loop-at g l =
-    let c = course_of (g.P.Plan.log l.plan) (g.P.Plan.opening l.plan) (g.P.Plan.operations l.plan) in
+    let c = course_of (g.P.Plan.planned l.plan) in
     (1 ≤ l.at.number) × (place l.at.number l.at.op ≤ place (length_of c l.hart + 1) 0) × (writes_before c l.hart l.at.number l.at.op ≡ writes_before c l.hart l.initial.at.number l.initial.at.op)
 
 abbrev pub decreases-loop-at : goal.decreases-loop-at

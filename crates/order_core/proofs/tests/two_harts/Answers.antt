@@ -1,5 +1,6 @@
 use Rattle.std.proofs.Common.{◌≡◌, ℕ, List, [], ◌∷◌, ◌++◌, length, slice_get, replicate, None, Some, sym, ap, ◌∙◌, subst}
 use Rattle.pl_event.specs.declared.log.Line.{Line}
+use Rattle.pl_event.specs.declared.log.PageRun.{PageRun}
 use Rattle.order_core.specs.declared.course.Op.{Op}
 use Rattle.order_core.specs.Course.{course_of}
 use Rattle.order_core.specs.Lawful.{IsLawful}
@@ -17,7 +18,8 @@ new-requires-2-clause-lawful c =
     let x : ops 0 1 ≡ write 9 1 7 ∷ [] = ap (λ z. ops_in z 0 1) c.in_ok-streams.ensures.items ∙ (ap (λ z. ops_of (slice_get z 0)) c.in_ok-from_array-4.ensures.items ∙ (c.in_ok-from_array.ensures.items ∙ ap (λ z. z ∷ []) c.write.ensures)) in
     let y : ops 1 1 ≡ read 9 1 7 ∷ write 9 2 196608 ∷ [] = ap (λ z. ops_in z 1 1) c.in_ok-streams.ensures.items ∙ (ap (λ z. ops_of (slice_get z 0)) c.in_ok-from_array-5.ensures.items ∙ (c.in_ok-from_array-2.ensures.items ∙ (λ i. c.read.ensures i ∷ c.write-2.ensures i ∷ []))) in
     let z : ops 0 2 ≡ read 9 3 196615 ∷ write 10 15 9 ∷ [] = ap (λ z. ops_in z 0 2) c.in_ok-streams.ensures.items ∙ (ap (λ z. ops_of (slice_get z 1)) c.in_ok-from_array-4.ensures.items ∙ (c.in_ok-from_array-3.ensures.items ∙ (λ i. c.read-2.ensures i ∷ c.write-3.ensures i ∷ []))) in
-    ∣ subst (λ (t : List Line × List ℕ). IsLawful (course_of (record { harts = 2; block = 16; pages = c.new.result; lines = t.0 }) t.1 ops)) (λ i. (sym all i, sym c.in_ok-opening.ensures.items i)) (two_harts c.new.result ops x y z) ∣₁
+    ∣ subst (λ (t : List PageRun × List Line × List ℕ). IsLawful (course_of (record { log = record { harts = 2; block = 16; pages = t.0; lines = t.1 }; opening = t.2; operations = ops })))
+    (λ i. (sym c.new.ensures i, sym all i, sym c.in_ok-opening.ensures.items i)) (two_harts ops x y z) ∣₁
 
 pub new-requires-2-clause-records : goal.new-requires-2-clause-records
 new-requires-2-clause-records c =

@@ -1,5 +1,5 @@
 use Rattle.std.proofs.Common.{ap, sym, ◌∙◌}
-use Rattle.pl_event.specs.Heads.{later}
+use Rattle.pl_event.specs.inner.Later.{later}
 use Rattle.pl_event.proofs.Before.{is_need}
 use Rattle.pl_event.proofs.heads.Heads.need.Goals as goal
 

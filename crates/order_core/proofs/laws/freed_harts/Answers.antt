@@ -1,0 +1,9 @@
+use Rattle.order_core.proofs.FreedLemmas.{needs_told}
+use Rattle.order_core.proofs.KnownLaws as law
+use Rattle.order_core.proofs.laws.freed_harts.Goals as goal
+
+pub returns-clause-needs : goal.returns-clause-needs
+returns-clause-needs _ c k st h ended u n m need low = needs_told c k st h ended u n m need low
+
+pub returns-clause-freed : goal.returns-clause-freed
+returns-clause-freed _ c known k st h ended = law.frees c known k st h ended

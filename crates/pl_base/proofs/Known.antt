@@ -22,7 +22,7 @@ Appends-then (Some u) None c xs ys p q = absurd p
 Appends-then (Some u) (Some v) None xs ys p q = absurd q
 Appends-then (Some u) (Some v) (Some w) xs ys p q = q ∙ ap (λ (t : List ℕ). t ++ ys) p ∙ append_assoc u xs ys
 
--- the piece that was copied to the front is the next one
+-- the piece that was copied to the beginning is the next one
 pub next_piece : (bs xs ys : List ℕ) (at n : ℕ) → xs ≡ take n (drop at bs) → n ≤ length bs - at → drop at bs ≡ take n (xs ++ ys) ++ drop (at + n) bs
 next_piece bs xs ys at n e le =
     let len : length xs ≡ n = ap length e ∙ omega (arith, length-take n (drop at bs), length-drop at bs) in
@@ -50,7 +50,7 @@ Consumes-whole None b xs end p = tt
 Consumes-whole (Some u) None xs end p = absurd p
 Consumes-whole (Some u) (Some v) xs end p = p ∙ ap (λ (t : List ℕ). xs ++ t) end ∙ append-nil xs
 
--- two fronts in turn are one
+-- two pieces in turn are one
 pub TakesBetween-then : (a b c : Option (List ℕ)) (xs ys : List ℕ) (least most : ℕ) → Consumes a b xs → Consumes b c ys → least ≤ length (xs ++ ys) → length (xs ++ ys) ≤ most → TakesBetween a c least most
 TakesBetween-then a b c xs ys least most p q long short = record { front = xs ++ ys; long = long; short = short; taken = Consumes-then a b c xs ys p q }
 

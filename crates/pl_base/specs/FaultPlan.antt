@@ -7,7 +7,7 @@ pub record Plan : Type 0 where
   pub calls : ℕ
   pub faults : ℕ
 
--- the count after one more, which stands still at the last value of 64 bits
+-- the count after one more, which stays at the last value of 64 bits
 abbrev pub one_more : ℕ → ℕ
 one_more count = min (count + 1) (2 ^ 64 - 1)
 

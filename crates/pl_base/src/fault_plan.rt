@@ -1,3 +1,4 @@
+//! Which calls are to fail.
 ghost use Rattle.std.specs.Prelude.{◌≡◌, ◌↔◌, ◌<◌, ◌≤◌, ◌^◌, IsTrue};
 ghost use Rattle.pl_base.specs.Causes.{Rose};
 ghost use Rattle.pl_base.specs.FaultPlan.{NamesNext, new_plan, after_call, after_fault};
@@ -6,7 +7,7 @@ use std::marker::Model;
 
 /// Which calls are to fail, by their numbers from 1, and how many were made and failed.
 ///
-/// Both counts stand still at the last value of `u64`. No call can be named from there on, since names have 32 bits.
+/// Both counts stay at the last value of `u64`. No call can be named from there on, since names have 32 bits.
 #[derive(Drop)]
 pub(crate) struct FaultPlan {
     fails: Vec<u32>,

@@ -1,9 +1,10 @@
-//! What every layer stands on: where bytes come from and go to, the gate that workers pass, and
-//! the widths and faults of a hart.
+//! The ground of every layer: the numbers of the guest's layout and the limits, pages by number, where
+//! bytes come from and go to, the gate that workers pass, and the widths and faults of a hart.
 //!
 //! A source and a sink are traits with two meanings each: the bytes that are left or were written,
-//! where they tell them, and a count of faults that never falls. So a caller knows after each call
-//! which bytes moved, and that nothing failed without a fault that was counted.
+//! where they tell them, and a count of faults that rises at a failure and at nothing else. So a caller
+//! knows after each call which bytes moved, that nothing failed without a fault that was counted, and
+//! that no fault was swallowed.
 //! `LineBuffer` reads a source piece by piece and hands out whole lines.
 //! `MemSource` and `MemSink` work over bytes in memory and fail at the calls that they are told;
 //! `CleanSource` and `CleanSink` never fail.

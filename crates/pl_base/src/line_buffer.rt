@@ -1,20 +1,21 @@
-ghost use Rattle.std.specs.Prelude.{◌≡◌, ◌≢◌, true, false, ℕ, slice_index, ◌+◌, ◌≤◌, ◌<◌, List, [], ◌++◌, length, take, drop, vec_len, IfOk, IfErr, OnOk, IfSome, IsErrOf};
+//! Whole lines of a source that is read piece by piece.
+ghost use Rattle.std.specs.Prelude.{◌≡◌, ◌≢◌, true, false, ℕ, slice_index, ◌+◌, ◌≤◌, ◌<◌, List, [], ◌++◌, length, take, drop, vec_len, IfOk, IfErr, OnOk, OnErr, IfSome, IsErrOf, MatchResult};
 ghost use Rattle.std.specs.List.{slice_range};
-ghost use Rattle.std.specs.Io.KnownBytes.{IsAtEnd};
-ghost use Rattle.pl_base.specs.Causes.{Rose};
+ghost use Rattle.std.specs.Io.KnownBytes.{Consumes, Keeps, IsAtEnd};
+ghost use Rattle.pl_base.specs.Causes.{HasCause, HasReadCause};
 ghost use Rattle.pl_base.specs.Fronts.{TakesFront};
-ghost use Rattle.pl_base.specs.Held.{front_of, begun_of, IsOrdered};
-ghost use Rattle.pl_base.specs.LineBuffer.{Window, Reads, Fills, Skips, ends_line};
+ghost use Rattle.pl_base.specs.Held.{front_of, begun_of, HasNoLineFeed, IsOrdered, HasSamePlaces};
+ghost use Rattle.pl_base.specs.LineBuffer.{Window, Reads, Fills, Stops, Skips, ends_line};
 
 use crate::loops::{PIECE, zeros};
-use crate::{NoMemory, ReadEnd, Source};
+use crate::{Failed, NoMemory, ReadEnd, Source};
 use std::alloc::{AllocError, Global};
 use std::marker::Model;
 
 /// How many bytes a read asks for at least. It asks for `PIECE` at most.
 const ROOM: usize = 64;
 
-/// How many of these bytes stand up to the last line feed, with it.
+/// How many of these bytes there are up to the last line feed, with it.
 fn lines_len(bytes: &[u8]) -> usize
     ensures within { result ≤ length bytes.now }
     ensures lines { ends_line (take result bytes.now) ≡ true }
@@ -33,10 +34,10 @@ fn skip<S: Source>(source: &mut S, limit: u32, piece: &mut [u8]) -> Result<(), R
     requires room { 0 < length piece.old }
     requires short { length piece.old ≤ 65536 }
     ensures ok { OnOk result (Skips (S.left source.old) (S.left source.new) limit) }
-    ensures fault { IsErrOf result ReadEnd.Fault → Rose (S.faults source.old) (S.faults source.new) }
     ensures too_long { IsErrOf result ReadEnd.TooLong → IfSome (S.left source.old) (λ left. limit < length left) }
     ensures taken { IfErr result (λ end. TakesFront end (S.left source.old) (S.left source.new) limit) }
-    ensures later { S.faults source.old ≤ S.faults source.new }
+    ensures cause { HasReadCause (S.faults source.old) (S.faults source.new) result }
+    ensures no_memory { IfErr result (λ end. end ≢ ReadEnd.NoMemory) }
 {
     let mut spare = limit as usize;
     loop {
@@ -53,7 +54,7 @@ fn skip<S: Source>(source: &mut S, limit: u32, piece: &mut [u8]) -> Result<(), R
     }
 }
 
-/// One buffer: the bytes at hand from `start` to `whole`, those begun up to `end`, and room behind.
+/// One buffer: the bytes at hand from `start` to `whole`, those begun up to `end`, and room after them.
 #[derive(Drop)]
 struct Held {
     bytes: Vec<u8>,
@@ -63,7 +64,7 @@ struct Held {
 }
 
 impl Held {
-    /// Sees to it that a read has room, where nothing is at hand: moves what is begun to the front
+    /// Sees to it that a read has room, where nothing is at hand: moves what is begun to the beginning
     /// of the buffer, and doubles the buffer where that is not enough.
     fn make_room(&mut self) -> Result<(), AllocError>
         requires ordered { IsOrdered self.old }
@@ -86,13 +87,33 @@ impl Held {
         Ok(())
     }
 
-    /// Takes in the bytes that were read behind those begun, where nothing was at hand.
+    /// Reads once into the room after the bytes begun, and says how many bytes came there.
+    fn read<S: Source>(&mut self, source: &mut S) -> Result<usize, Failed>
+        requires ordered { IsOrdered self.old }
+        requires room { self.old.end < vec_len self.old.bytes }
+        ensures places { HasSamePlaces self.old self.new }
+        ensures begun { begun_of self.new ≡ begun_of self.old }
+        ensures within { IfOk result (λ n. (self.new.end + n ≤ vec_len self.new.bytes) × (n ≤ 65536)) }
+
+        // The bytes that came are those after the bytes begun.
+        ensures bytes { IfOk result (λ n. Consumes (S.left source.old) (S.left source.new) (slice_range self.new.bytes.items self.new.end (self.new.end + n))) }
+        ensures end { IfOk result (λ n. n ≡ 0 → IsAtEnd (S.left source.new)) }
+        ensures none { OnErr result (Keeps (S.left source.old) (S.left source.new)) }
+        ensures cause { HasCause (S.faults source.old) (S.faults source.new) result }
+    {
+        let room = (self.bytes.len() - self.end).min(PIECE);
+        source.read(&mut self.bytes[self.end..self.end + room])
+    }
+
+    /// Takes in the bytes that were read after those begun, where nothing was at hand.
     fn take_in(&mut self, count: usize)
         requires ordered { IsOrdered self.old }
         requires empty { self.old.start ≡ self.old.whole }
         requires read { self.old.end + count ≤ vec_len self.old.bytes }
+        requires begun { HasNoLineFeed (begun_of self.old) }
         ensures ordered { IsOrdered self.new }
         ensures lines { ends_line (front_of self.new) ≡ true }
+        ensures begun { HasNoLineFeed (begun_of self.new) }
 
         ensures joined { front_of self.new ++ begun_of self.new ≡ begun_of self.old ++ slice_range self.old.bytes.items self.old.end (self.old.end + count) }
     {
@@ -104,8 +125,8 @@ impl Held {
     }
 }
 
-/// Reads a source piece by piece and hands out whole lines, so that the source never stands in
-/// memory whole.
+/// Reads a source piece by piece and hands out whole lines, so that the source is never in memory
+/// whole.
 ///
 /// What is at hand is whole lines, or at the end of the source all that is left. The buffer has
 /// 64 KiB, and grows where a line is longer.
@@ -175,7 +196,7 @@ impl LineBuffer {
         self.held.start += count;
     }
 
-    /// Reads once, behind the line begun.
+    /// Reads once, after the line begun.
     fn read_more<S: Source>(&mut self, source: &mut S) -> Result<(), ReadEnd>
         requires empty { self.old.front ≡ [] }
         requires going { self.old.ended ≡ false }
@@ -183,15 +204,14 @@ impl LineBuffer {
         ensures last { OnOk result (self.new.ended ≡ true → (self.new.begun ≡ []) × IsAtEnd (S.left source.new)) }
         ensures lines { OnOk result (self.new.ended ≡ false → ends_line self.new.front ≡ true) }
         ensures more { OnOk result (self.new.ended ≡ false → self.new.spare < self.old.spare) }
-        ensures fault { IsErrOf result ReadEnd.Fault → Rose (S.faults source.old) (S.faults source.new) }
+        ensures none_held { HasNoLineFeed self.new.begun }
+        ensures stopped { IfErr result (λ end. Stops end (S.left source.old) (S.left source.new) self.old self.new) }
         ensures too_long { IsErrOf result ReadEnd.TooLong → IfSome (S.left source.old) (λ left. self.old.spare < length left) }
         ensures taken { IfErr result (λ end. TakesFront end (S.left source.old) (S.left source.new) self.old.spare) }
-        ensures later { S.faults source.old ≤ S.faults source.new }
+        ensures cause { HasReadCause (S.faults source.old) (S.faults source.new) result }
     {
         self.held.make_room()?;
-        let room = (self.held.bytes.len() - self.held.end).min(PIECE);
-        let Ok(count) = source.read(&mut self.held.bytes[self.held.end..self.held.end + room])
-        else {
+        let Ok(count) = self.held.read(source) else {
             return Err(ReadEnd::Fault);
         };
         if count == 0 {
@@ -217,16 +237,18 @@ impl LineBuffer {
     /// - `Fault` where a read failed.
     /// - `TooLong` where more bytes came than the limit.
     /// - `NoMemory` where no memory was left.
+    ///
+    /// After `Fault` and `NoMemory` nothing that was read is lost, and filling goes on where it stopped.
     pub fn fill<S: Source>(&mut self, source: &mut S) -> Result<(), ReadEnd>
         requires empty { self.old.front ≡ [] }
         requires going { self.old.ended ≡ false }
         ensures ok { OnOk result (Fills (S.left source.old) (S.left source.new) self.old self.new) }
-        ensures fault { IsErrOf result ReadEnd.Fault → Rose (S.faults source.old) (S.faults source.new) }
+        ensures stopped { IfErr result (λ end. Stops end (S.left source.old) (S.left source.new) self.old self.new) }
         ensures too_long { IsErrOf result ReadEnd.TooLong → IfSome (S.left source.old) (λ left. self.old.spare < length left) }
 
         // What was taken at an error: past the limit where that was too long, and else no more than the limit.
         ensures taken { IfErr result (λ end. TakesFront end (S.left source.old) (S.left source.new) self.old.spare) }
-        ensures later { S.faults source.old ≤ S.faults source.new }
+        ensures cause { HasReadCause (S.faults source.old) (S.faults source.new) result }
     {
         loop {
             self.read_more(source)?;
@@ -237,7 +259,7 @@ impl LineBuffer {
     }
 
     /// Reads all that the source still has and keeps none of it, for a caller that found a fault in
-    /// the lines and owes the reading to the end. Nothing is at hand after it.
+    /// the lines and owes the reading to the end. Nothing is at hand or begun after it.
     ///
     /// It reads nothing where the source is at its end. It asks for 64 KiB at most at a time, and reads
     /// no more once it came to the end or past the limit.
@@ -248,13 +270,15 @@ impl LineBuffer {
     /// - `TooLong` where more bytes came than the limit.
     pub fn skip_rest<S: Source>(&mut self, source: &mut S) -> Result<(), ReadEnd>
         ensures ok { (self.old.ended ≡ true → IsAtEnd (S.left source.old)) → OnOk result (Skips (S.left source.old) (S.left source.new) self.old.spare) }
-        ensures fault { IsErrOf result ReadEnd.Fault → Rose (S.faults source.old) (S.faults source.new) }
+        ensures ended { OnOk result (self.new ≡ record self.old { front = []; begun = []; ended = true }) }
+        ensures going { OnErr result (self.new ≡ record self.old { front = []; begun = []; ended = false }) }
         ensures too_long { IsErrOf result ReadEnd.TooLong → IfSome (S.left source.old) (λ left. self.old.spare < length left) }
 
         // What was taken at an error: past the limit where that was too long, and else no more than the limit.
         ensures taken { IfErr result (λ end. TakesFront end (S.left source.old) (S.left source.new) self.old.spare) }
         ensures kept { self.old.ended ≡ true → source.new ≡ source.old }
-        ensures later { S.faults source.old ≤ S.faults source.new }
+        ensures cause { HasReadCause (S.faults source.old) (S.faults source.new) result }
+        ensures no_memory { IfErr result (λ end. end ≢ ReadEnd.NoMemory) }
     {
         self.held.start = 0;
         self.held.whole = 0;

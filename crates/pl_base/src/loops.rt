@@ -1,6 +1,7 @@
+//! Reading a source to its end, and writing bytes until none are left.
 ghost use Rattle.std.specs.Prelude.{◌≡◌, ◌≤◌, ◌<◌, [], length, vec_len, IfOk, IfErr, OnOk, OnErr, IfSome, IsErrOf};
 ghost use Rattle.std.specs.Io.KnownBytes.{Appends, Consumes, IsAtEnd};
-ghost use Rattle.pl_base.specs.Causes.{Rose};
+ghost use Rattle.pl_base.specs.Causes.{Rose, HasReadCause};
 ghost use Rattle.pl_base.specs.Fronts.{TakesFront, AppendsFront, AppendsLess};
 
 use crate::{Failed, Sink, Source};
@@ -52,10 +53,9 @@ fn fill<S: Source>(
     ensures end { OnOk result (IsAtEnd (S.left source.new)) }
     ensures within { OnOk result (vec_len all.new ≤ limit) }
     ensures read { OnOk result (Consumes (S.left source.old) (S.left source.new) all.new.items) }
-    ensures fault { IsErrOf result ReadEnd.Fault → Rose (S.faults source.old) (S.faults source.new) }
     ensures too_long { IsErrOf result ReadEnd.TooLong → IfSome (S.left source.old) (λ left. limit < length left) }
     ensures taken { IfErr result (λ end. TakesFront end (S.left source.old) (S.left source.new) limit) }
-    ensures later { S.faults source.old ≤ S.faults source.new }
+    ensures cause { HasReadCause (S.faults source.old) (S.faults source.new) result }
 {
     loop {
         let Ok(count) = source.read(piece) else {
@@ -86,12 +86,11 @@ pub fn read_all<S: Source>(alloc: Global, source: &mut S, limit: u32) -> Result<
     ensures within { IfOk result (λ bytes. vec_len bytes ≤ limit) }
     ensures read { IfOk result (λ bytes. Consumes (S.left source.old) (S.left source.new) bytes.items) }
 
-    ensures fault { IsErrOf result ReadEnd.Fault → Rose (S.faults source.old) (S.faults source.new) }
     ensures too_long { IsErrOf result ReadEnd.TooLong → IfSome (S.left source.old) (λ left. limit < length left) }
 
     // What was taken at an error: past the limit where that was too long, and else no more than the limit.
     ensures taken { IfErr result (λ end. TakesFront end (S.left source.old) (S.left source.new) limit) }
-    ensures later { S.faults source.old ≤ S.faults source.new }
+    ensures cause { HasReadCause (S.faults source.old) (S.faults source.new) result }
 {
     let mut all: Vec<u8> = Vec::new(alloc);
     let mut piece = zeros(alloc, PIECE)?;
@@ -103,12 +102,13 @@ pub fn read_all<S: Source>(alloc: Global, source: &mut S, limit: u32) -> Result<
 ///
 /// # Errors
 ///
-/// `Failed` where a write failed. Then a front of the bytes was appended, and not all of them.
+/// `Failed` where a write failed. Then a prefix of the bytes was appended, and not all of them.
 pub fn write_all_counted<K: Sink>(sink: &mut K, bytes: &[u8]) -> Result<(), Failed>
     ensures ok { OnOk result (Appends (K.written sink.old) (K.written sink.new) bytes.now) }
     ensures failed { OnErr result (AppendsLess (K.written sink.old) (K.written sink.new) bytes.now) }
     ensures front { AppendsFront (K.written sink.old) (K.written sink.new) bytes.now }
 
+    ensures quiet { OnOk result (K.faults sink.new ≡ K.faults sink.old) }
     ensures cause { OnErr result (Rose (K.faults sink.old) (K.faults sink.new)) }
     ensures later { K.faults sink.old ≤ K.faults sink.new }
 {

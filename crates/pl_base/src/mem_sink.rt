@@ -1,3 +1,4 @@
+//! A sink that keeps what is written in memory.
 ghost use Rattle.std.specs.Prelude.{◌≡◌, ◌≤◌, ◌<◌, ◌↔◌, [], length, Some, IsErr, IfOk, OnErr};
 ghost use Rattle.std.specs.Io.KnownBytes.{WriteAppends};
 ghost use Rattle.pl_base.specs.Causes.{HasCause};
@@ -33,7 +34,7 @@ impl Model for MemSink {
 
 impl MemSink {
     /// A sink with memory for `room` bytes that takes at most `piece` of them a call, and fails at
-    /// the calls whose numbers, from 1, stand in `fails`.
+    /// the calls whose numbers, from 1, are in `fails`.
     ///
     /// # Errors
     ///

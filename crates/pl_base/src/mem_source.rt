@@ -1,3 +1,4 @@
+//! A source over bytes in memory.
 ghost use Rattle.std.specs.Prelude.{◌≡◌, ◌≤◌, ◌<◌, ◌↔◌, length, Some, IsErr, IfOk, OnErr, IfSome, []};
 ghost use Rattle.std.specs.Io.{ReadsAtMost};
 ghost use Rattle.std.specs.Io.KnownBytes.{ReadConsumes};
@@ -33,7 +34,7 @@ impl Model for MemSource {
 
 impl MemSource {
     /// A source of these bytes that gives at most `piece` of them a call, and fails at the calls
-    /// whose numbers, from 1, stand in `fails`.
+    /// whose numbers, from 1, are in `fails`.
     pub fn new(bytes: Vec<u8>, piece: u32, fails: Vec<u32>) -> MemSource
         requires { 0 < piece }
         ensures { result ≡ record { left = bytes.items; piece = piece; plan = new_plan fails.items } }

@@ -1,3 +1,4 @@
+//! Where bytes come from and go to, and the gate that workers pass.
 ghost use Rattle.std.specs.Prelude.{◌≡◌, ◌↔◌, ◌≤◌, ◌<◌, List, [], ℕ, length, IfOk, IfSome};
 ghost use Rattle.std.specs.declared.option.Option.{Option};
 ghost use Rattle.std.specs.Io.{ReadsAtMost};
@@ -35,11 +36,11 @@ pub trait Source {
     /// The bytes that are left, where it tells them.
     ghost left: { Self → Option (List ℕ) };
 
-    /// How many reads have failed: a number of 64 bits that never falls, and stands still at its last value.
+    /// How many reads have failed: a number of 64 bits that never falls, and stays at its last value.
     ghost faults: { Self → ℕ };
 
-    /// Reads the next bytes into the front of a slice that is not empty, and says how many: at most
-    /// the slice's length, and zero at the end alone.
+    /// Reads the next bytes to the beginning of a slice that is not empty, and says how many: at most
+    /// the slice's length, and zero at the end alone. A read that succeeds counts no fault.
     ///
     /// # Errors
     ///
@@ -58,10 +59,11 @@ pub trait Sink {
     /// The bytes that were written, where it tells them.
     ghost written: { Self → Option (List ℕ) };
 
-    /// How many writes have failed: a number of 64 bits that never falls, and stands still at its last value.
+    /// How many writes have failed: a number of 64 bits that never falls, and stays at its last value.
     ghost faults: { Self → ℕ };
 
-    /// Appends the first bytes of a piece that is not empty, and says how many: at least one.
+    /// Appends the first bytes of a piece that is not empty, and says how many: at least one. A write that
+    /// succeeds counts no fault.
     ///
     /// # Errors
     ///
@@ -80,7 +82,7 @@ pub trait Gate {
     fn pass(&self, hart: u8, number: u32);
 }
 
-/// The gate that always stands open.
+/// The gate that is always open.
 #[derive(Clone, Copy, Debug, Default, PartialEq, Eq)]
 pub struct OpenGate;
 

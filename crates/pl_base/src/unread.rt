@@ -1,8 +1,9 @@
+//! Bytes in memory that are read in their order.
 ghost use Rattle.std.specs.Prelude.{◌≡◌, ◌++◌, length, take, drop, min};
 
 use std::marker::Model;
 
-/// Bytes in memory that are read from the front. Contracts see those that are left.
+/// Bytes in memory that are read in their order. Contracts see those that are left.
 #[derive(Drop)]
 pub(crate) struct Unread {
     bytes: Vec<u8>,
@@ -26,7 +27,7 @@ impl Unread {
         Unread { bytes, at: 0 }
     }
 
-    /// Moves the next bytes to the front of a slice, as many as fit and at most `most`.
+    /// Moves the next bytes to the beginning of a slice, as many as fit and at most `most`.
     pub(crate) fn read(&mut self, into: &mut [u8], most: usize) -> usize
         ensures count { result ≡ min (min (length self.old) most) (length into.old) }
         ensures bytes { self.old ≡ take result into.new ++ self.new }

@@ -1,3 +1,4 @@
+//! The widths of loads and stores, and why a hart faults.
 ghost use Rattle.std.specs.Prelude.{◌≡◌};
 
 /// How many bytes a load takes, and whether its top bit is spread: `B` and `H` are signed, `Bu` and `Hu` unsigned.

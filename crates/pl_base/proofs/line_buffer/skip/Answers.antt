@@ -1,4 +1,4 @@
-use Rattle.std.proofs.Common.{arith}
+use Rattle.std.proofs.Common.{arith, ◌∙◌}
 use Rattle.std.proofs.lemmas.List.{length-append, length-take}
 use Rattle.pl_base.proofs.Known.{TakesBetween-then}
 use Rattle.pl_base.proofs.line_buffer.skip.Goals as goal
@@ -10,7 +10,7 @@ loop-count-preserved g c = record {
       (simp (length-append, length-take) (omega (arith, c.in-Ok.ensures.bound.0, c.loop-count.invariant.taken.long)))
       (simp (length-append, length-take) (omega (arith, c.in-Ok.ensures.bound.0, c.loop-count.invariant.taken.short)));
   within = omega arith;
-  later = omega (arith, c.in-Ok.ensures.cause.later);
+  quiet = c.in-Ok.ensures.cause.quiet ∙ c.loop-count.invariant.quiet;
   room = omega arith;
 }
 

@@ -1,4 +1,4 @@
-use Rattle.std.proofs.Common.{◌≤◌, ◌<◌, ◌-◌, length}
+use Rattle.std.proofs.Common.{◌≡◌, ◌≤◌, ◌<◌, ◌-◌, length}
 use Rattle.pl_base.specs.Fronts.{TakesBetween}
 use Rattle.pl_base.proofs.line_buffer.skip.Given as goal
 
@@ -6,7 +6,7 @@ abbrev pub invariant-loop-count : goal.invariant-loop-count
 invariant-loop-count g l = record {
   taken : TakesBetween (g.S.Source.left l.fn.source) (g.S.Source.left l.source) (l.limit - l.spare) (l.limit - l.spare);
   within : l.spare ≤ l.limit;
-  later : g.S.Source.faults l.fn.source ≤ g.S.Source.faults l.source;
+  quiet : g.S.Source.faults l.source ≡ g.S.Source.faults l.fn.source;
   room : 0 < length l.piece;
 }
 

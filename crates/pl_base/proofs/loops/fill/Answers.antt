@@ -1,4 +1,4 @@
-use Rattle.std.proofs.Common.{arith}
+use Rattle.std.proofs.Common.{arith, ◌∙◌}
 use Rattle.std.proofs.lemmas.List.{length-append, length-take}
 use Rattle.std.proofs.lemmas.Result.{err_from_is_err_and}
 use Rattle.pl_base.proofs.Known.{TakesBetween-then, Consumes-then, Consumes-longer, Consumes-nothing, Consumes-whole}
@@ -16,7 +16,7 @@ pub loop-count-preserved : goal.loop-count-preserved
 loop-count-preserved g c = record {
   bytes = rw c.in_ok-extend_from_slice.ensures.items (Consumes-then _ _ _ _ _ c.loop-count.invariant.bytes c.in-Ok.ensures.bytes.0);
   within = let e = c.in_ok-extend_from_slice.ensures.len in omega (arith, c.in-Ok.ensures.bound.0, length-take c.in-Ok.count c.read.new.into, e);
-  later = omega (arith, c.in-Ok.ensures.cause.later);
+  quiet = c.in-Ok.ensures.cause.quiet ∙ c.loop-count.invariant.quiet;
   room = omega arith;
 }
 

@@ -1,4 +1,4 @@
-use Rattle.std.proofs.Common.{arith}
+use Rattle.std.proofs.Common.{arith, ◌∙◌}
 use Rattle.std.proofs.lemmas.List.{length-drop}
 use Rattle.std.proofs.Math.Seq.{take-add}
 use Rattle.pl_base.proofs.Known.{Appends-then, slice_rest}
@@ -8,5 +8,5 @@ pub loop-at-preserved : goal.loop-at-preserved
 loop-at-preserved g c = record {
   bytes = rw (take-add c.loop-at.at c.in-Ok.count c.args.bytes.now) (Appends-then _ _ _ _ _ c.loop-at.invariant.bytes (rw slice_rest at c.in-Ok.ensures.bytes));
   within = omega (arith, c.in-Ok.ensures.bound.1, length-drop c.loop-at.at c.args.bytes.now);
-  later = omega (arith, c.in-Ok.ensures.cause.later);
+  quiet = c.in-Ok.ensures.cause.quiet ∙ c.loop-at.invariant.quiet;
 }

@@ -1,7 +1,7 @@
 use Rattle.std.proofs.Common.{arith, ap, ◌≤◌, ◌+◌, length, ℕ}
 use Rattle.std.proofs.lemmas.List.{length-take}
 use Rattle.pl_base.specs.LineBuffer.{ends_line}
-use Rattle.pl_base.proofs.Lines.{slice_range-lines, slice_range-none, slice_range-cuts}
+use Rattle.pl_base.proofs.Lines.{slice_range-lines, slice_range-none, slice_range-cuts, no_line_feed-rest, no_line_feed-join}
 use Rattle.pl_base.proofs.line_buffer.Held.take_in.Goals as goal
 use Rattle.pl_base.proofs.line_buffer.Held.take_in.Goals.{then-lines-gt0, else-lines-gt0}
 
@@ -14,6 +14,15 @@ returns-clause-lines c =
     elim c.if-lines-gt0.branch [
       | then-lines-gt0 w ↦ rw w.self-is (slice_range-lines held.bytes.items held.start held.end c.lines_len-lines.result c.args.count start w.if-lines-gt0.true fits within (rw c.deref.ensures.value at c.lines_len-lines.ensures.lines))
       | else-lines-gt0 w ↦ rw w.self-is (ap ends_line (slice_range-none held.bytes.items held.start held.whole c.requires.empty))
+    ]
+
+pub returns-clause-begun : goal.returns-clause-begun
+returns-clause-begun c =
+    let held = c.args.self.now in
+    let fits : c.lines_len-lines.result ≤ c.args.count = omega (arith, c.lines_len-lines.ensures.within, length-take {A = ℕ}) in
+    elim c.if-lines-gt0.branch [
+      | then-lines-gt0 w ↦ rw w.self-is (no_line_feed-rest held.bytes.items held.end c.lines_len-lines.result c.args.count fits (rw c.deref.ensures.value at c.lines_len-lines.ensures.last))
+      | else-lines-gt0 w ↦ rw w.self-is (no_line_feed-join held.bytes.items held.whole held.end c.lines_len-lines.result c.args.count c.requires.ordered.whole (omega (arith, w.if-lines-gt0.false)) c.requires.begun (rw c.deref.ensures.value at c.lines_len-lines.ensures.last))
     ]
 
 pub returns-clause-joined : goal.returns-clause-joined

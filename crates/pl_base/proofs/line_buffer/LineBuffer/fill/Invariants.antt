@@ -1,4 +1,4 @@
-use Rattle.std.proofs.Common.{◌≡◌, ◌≤◌, [], false}
+use Rattle.std.proofs.Common.{◌≡◌, [], false}
 use Rattle.pl_base.specs.LineBuffer.{Reads}
 use Rattle.pl_base.proofs.line_buffer.LineBuffer.fill.Given as goal
 
@@ -7,7 +7,7 @@ invariant-loop-self g l = record {
   reads : Reads (g.S.Source.left l.fn.source) (g.S.Source.left l.source) l.fn.self l.self;
   empty : l.self.front ≡ [];
   going : l.self.ended ≡ false;
-  later : g.S.Source.faults l.fn.source ≤ g.S.Source.faults l.source;
+  quiet : g.S.Source.faults l.source ≡ g.S.Source.faults l.fn.source;
 }
 
 abbrev pub decreases-loop-self : goal.decreases-loop-self

@@ -15,6 +15,7 @@ invariant_of-self c =
         end = c.self.invariant.ordered.end;
         long = c.self.invariant.ordered.long;
       };
+      begun = c.self.invariant.begun;
       lines = λ going. rw (← slice_range-drop _ _ _ _ fits) (ends_line-drop c.args.count (front_of c.self.inside.held) (c.self.invariant.lines going));
     }
 

@@ -1,10 +1,14 @@
 pub mod Before
 pub mod Edges
+pub mod Growth
 pub mod MappedPages
 pub mod Mosts
+pub mod Noticed
 pub mod OpeningPages
 pub mod Paths
 pub mod Places
-pub mod Sources
 pub mod RowLemmas
+pub mod ShortLogs
+pub mod Sources
 pub mod StreamLemmas
+pub mod Unordered

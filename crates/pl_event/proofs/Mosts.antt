@@ -1,5 +1,5 @@
 -- The greatest of two facts' numbers.
-use Rattle.std.proofs.Common.{◌≡◌, ℕ, ◌≤◌, ◌⊎◌, max, Option, Some, None, subst, inl, inr, ⊎_elim, arith}
+use Rattle.std.proofs.Common.{IsTrue, ◌↔◌, is_some, true, false, ◌≡◌, ℕ, ◌≤◌, ◌⊎◌, max, Option, Some, None, refl, subst, inl, inr, ⊎_elim, arith}
 use mathlib.Core.Logic.{dite}
 use native.Mathlib.Decide.{dec_le}
 use Rattle.pl_event.specs.Needs.{IsMost}
@@ -15,3 +15,7 @@ later_most P Q (Some x) (Some y) p q = (
       (λ n. let l : x ≤ y → ⊥ = n in let e : x ≡ max x y = omega arith in inl (subst P e p.0)),
   λ k e. ⊎_elim (λ (a : P k). let l : k ≤ x = p.1 k a in omega arith) (λ (a : Q k). let l : k ≤ y = q.1 k a in omega arith) e,
 )
+
+pub most_some : (P : ℕ → Type 0) (o : Option ℕ) → IsMost P o → IsTrue (is_some o) ↔ ((k : ℕ) × P k)
+most_some P None most = ((λ e. absurd (let f : false ≡ true = e in cc)), (λ t. absurd (most t.0 t.1)))
+most_some P (Some n) most = ((λ e. (n, most.0)), (λ t. refl))

@@ -1,5 +1,5 @@
 -- Runs of pages that rise.
-use Rattle.std.proofs.Common.{◌≡◌, ℕ, ◌+◌, ◌<◌, ◌≤◌, inl, inr, Bool, true, false, cond, leb, ltb, ◌||◌, List, [], ◌∷◌, refl, arith}
+use Rattle.std.proofs.Common.{◌≡◌, ℕ, ◌+◌, ◌<◌, inl, inr, Bool, true, false, cond, leb, ltb, ◌||◌, List, [], ◌∷◌, refl, arith}
 use Rattle.std.proofs.lemmas.Bool.{false≢true, and_parts, ltb-true, or_from, or_cases}
 use Rattle.pl_base.specs.Pages.{is_among, marked, count_below}
 use Rattle.pl_base.proofs.Pages.{not_among_before, count_like, count_none, count_run}

@@ -1,4 +1,4 @@
--- Where records stand in a log.
+-- Which line has which record.
 use Rattle.std.proofs.Common.{◌≡◌, ◌≢◌, ℕ, zero, suc, ◌+◌, ◌-◌, ◌<◌, ◌≤◌, Bool, true, false, eqb, List, [], ◌∷◌, length, refl, sym, ap, ◌∙◌, subst, arith, eq-eqb, ne_eqb, if◌then◌else◌}
 use Rattle.std.proofs.lemmas.Bool.Decides.{nat_tests}
 use mathlib.Core.Option.{some, some-injective, some-ne-none}
@@ -28,7 +28,7 @@ line_number_next g h m = subst (λ (z : ℕ). line_number g h m < line_number g 
         by true a b = omega arith
         by false a b = omega arith
 
--- where a record stands
+-- which line has a record
 pub line_number_of : (g : List Line) (i h m : ℕ) (l : Line) → IsRecord g i h m l → line_number g h m ≡ i + 1
 line_number_of g i h m l is = go g i h m l is.at is.hart is.number
   where
@@ -50,7 +50,7 @@ line_number_of g i h m l is = go g i h m l is.at is.hart is.number
             let d : line_number g h (suc (records_before h g i)) ≡ i + 1 = deep (suc (records_before h g i)) (omega arith) in
             subst (λ (z : ℕ). line_number (x ∷ g) h z ≡ suc i + 1) there (ap (λ (b : Bool). suc (if b then line_number g h (records_before h g i) else line_number g h (suc (records_before h g i)))) e ∙ (let d : suc (line_number g h (suc (records_before h g i))) ≡ suc i + 1 = omega arith in d))
 
--- the records among the first i lines stand at the first i places
+-- the records among the first i lines have line numbers up to i
 pub line_number_within : (g : List Line) (i h n : ℕ) → n ≤ records_before h g i → line_number g h n ≤ i
 line_number_within [] i h n l = omega arith
 line_number_within (x ∷ g) i h zero l = omega arith
@@ -105,7 +105,7 @@ before_own g i h l at own =
     let z : bit (is_of h l) ≡ 1 = ap bit (eq-eqb (hart_of l.what) h own) in
     ap (records_before h g) (omega arith) ∙ (let t : records_before h g (suc i) ≡ records_before h g i + 1 = omega arith in t)
 
--- a record stands at one place
+-- a record is one line
 pub one_place : (g : List Line) (h m i j : ℕ) (l k : Line) → IsRecord g i h m l → IsRecord g j h m k → (i ≡ j) × (l ≡ k)
 one_place g h m i j l k a b =
     let p : line_number g h m ≡ i + 1 = line_number_of g i h m l a in

@@ -25,7 +25,7 @@ same_line a b e = cc
 same_number : (a b : ℕ) → Some a ≡ Some b → a ≡ b
 same_number a b e = cc
 
--- the function that looks a record up gives the one that stands there
+-- the function that looks a record up gives the record
 pub found : (g : List Line) (i h m : ℕ) (l : Line) → IsRecord g i h m l → record_of g h m ≡ Some l
 found g i h m l is = go g i m is.at is.number
   where
@@ -47,9 +47,9 @@ found g i h m l is = go g i m is.at is.number
         by deep false e n =
             ap (λ (b : Bool). if b then (if eqb m 1 then some_line x else record_of g h (m - 1)) else record_of g h m) e ∙ deep m (omega arith)
 
-pub stands : (g : List Line) (h m : ℕ) (l : Line) → record_of g h m ≡ Some l → (i : ℕ) × IsRecord g i h m l
-stands [] h m l e = absurd (let t : None ≡ some_line l = e in cc)
-stands (x ∷ g) h m l e = by (stands g h) (is_of h x) refl
+pub at_position : (g : List Line) (h m : ℕ) (l : Line) → record_of g h m ≡ Some l → (i : ℕ) × IsRecord g i h m l
+at_position [] h m l e = absurd (let t : None ≡ some_line l = e in cc)
+at_position (x ∷ g) h m l e = by (at_position g h) (is_of h x) refl
   where
     deeper : (b : Bool) (k : ℕ) → is_of h x ≡ b → bit b + k ≡ m → (i : ℕ) × IsRecord g i h k l → (i : ℕ) × IsRecord (x ∷ g) i h m l
     deeper b k e n t = (suc t.0, record { at = t.1.at; hart = t.1.hart; number = (let o : records_before h g t.0 + 1 ≡ k = t.1.number in let c : bit (is_of h x) ≡ bit b = ap bit e in omega arith) })
@@ -133,24 +133,24 @@ module _ (g : List Line) (u n h m : ℕ) where
   noted : (v k w j : ℕ) → is_notice w j (record_of g v k) ≡ true → IsNotice g v k w j
   noted v k w j e =
       let t = tells_notice w j (record_of g v k) e in
-      let s = stands g v k t.0 t.1 in
+      let s = at_position g v k t.0 t.1 in
       (s.0, t.0, s.1, t.2 ∙ ap (λ (z : ℕ). notice_of z w j) s.1.hart)
 
   note : (v k w j : ℕ) → IsNotice g v k w j → is_notice w j (record_of g v k) ≡ true
   note v k w j a = notice_tells w j (record_of g v k) a.1 v (found g a.0 v k a.1 a.2) a.3
 
   no_zero : (v : ℕ) (l : Line) → record_of g v 0 ≡ Some l → ⊥
-  no_zero v l e = let t = stands g v 0 l e in let o : records_before v g t.0 + 1 ≡ 0 = t.1.number in omega arith
+  no_zero v l e = let t = at_position g v 0 l e in let o : records_before v g t.0 + 1 ≡ 0 = t.1.number in omega arith
 
   -- the test is the edge
   pub leads : is_source g u n h m ≡ true → Into g u n h m
   leads e = ⊎_elim
       (λ (x : (to_arc || to_after) ≡ true). ⊎_elim
-      (λ (y : to_arc ≡ true). let t = tells_arc u n (record_of g h m) y in let s = stands g h m t.0 t.1 in inl (s.0, t.0, s.1, t.2))
+      (λ (y : to_arc ≡ true). let t = tells_arc u n (record_of g h m) y in let s = at_position g h m t.0 t.1 in inl (s.0, t.0, s.1, t.2))
       (λ (y : to_after ≡ true).
       let both = and_both (is_some (record_of g h m)) (is_notice u n (record_of g h (m - 1))) y in
       let t = tells_some (record_of g h m) both.0 in
-      let s = stands g h m t.0 t.1 in
+      let s = at_position g h m t.0 t.1 in
       let k : m - 1 + 1 ≡ m = let o : records_before h g s.0 + 1 ≡ m = s.1.number in omega arith in
       inr (inr (s.0, t.0, m - 1, s.1, k, noted h (m - 1) u n both.1)))
       (or_one to_arc to_after x))

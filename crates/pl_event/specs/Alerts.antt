@@ -3,7 +3,7 @@ use Rattle.std.specs.Prelude.{Bool, true, false}
 use Rattle.pl_event.specs.declared.event.Kind.{Kind}
 use Rattle.pl_event.specs.declared.event.Kind.TheVariants.{Ld, St, Op, Mv, Im, Br, Jr, Al, Fr, Bf, Mp, Um, Rd, Wr, Ex, Ft}
 
--- a block taken or given back, pages mapped or unmapped, bytes from or to the outside
+-- a block allocated or freed, pages mapped or unmapped, bytes from or to the outside
 abbrev pub is_alert_kind : Kind → Bool
 is_alert_kind (Ld width rd rb addr) = false
 is_alert_kind (St width rv rb addr) = false

@@ -8,7 +8,7 @@ use Rattle.pl_event.specs.Numbers.{hart_of, is_of, events_of, events_on}
 use Rattle.pl_event.specs.Records.{records_before}
 use Rattle.pl_event.specs.Needs.{needs_of}
 
--- how many events stand up to position i, if an event stands there
+-- how many events there are up to position i, if an event is there
 abbrev pub place_at : List Line → ℕ → Record → ℕ
 place_at lines i (entry.Event event) = length (events_of (take (i + 1) lines))
 place_at lines i (entry.Notice hart point) = 0

@@ -6,6 +6,7 @@ pub mod Edges
 pub mod Graph
 pub mod Conflicts
 pub mod Unordered
+pub mod ShortLogs
 pub mod Candidates
 pub mod OpeningPages
 pub mod Mapping

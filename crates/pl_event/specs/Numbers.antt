@@ -6,7 +6,7 @@ use Rattle.pl_event.specs.declared.log.Line.{Line}
 use Rattle.pl_event.specs.declared.log.Record.{Record}
 use Rattle.pl_event.specs.declared.log.Record.TheVariants as entry
 
--- the hart in whose stream a record stands
+-- the hart of whose stream a record is
 abbrev pub hart_of : Record → ℕ
 hart_of (entry.Event event) = event.hart
 hart_of (entry.Notice hart point) = hart

@@ -1,3 +1,4 @@
+pub mod FedRows
 pub mod Later
 pub mod Packing
 pub mod Rows

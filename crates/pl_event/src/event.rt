@@ -49,12 +49,12 @@ pub enum Kind {
         rd: u8,
         rs: u8,
     },
-    /// A block of `len` bytes was taken from the heap.
+    /// A block of `len` bytes was allocated.
     Al {
         addr: u32,
         len: u32,
     },
-    /// A block of `len` bytes was given back to the heap.
+    /// A block of `len` bytes was freed.
     Fr {
         addr: u32,
         len: u32,
@@ -100,7 +100,7 @@ pub struct Event {
     pub kind: Kind,
 }
 
-/// Whether an event of this kind is an alert: a block taken or given back, pages mapped or unmapped, bytes from or to
+/// Whether an event of this kind is an alert: a block allocated or freed, pages mapped or unmapped, bytes from or to
 /// the outside. Other harts are told of these by notices.
 pub fn is_alert(kind: &Kind) -> bool
     ensures { result ≡ is_alert_kind kind.now }

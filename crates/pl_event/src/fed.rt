@@ -13,7 +13,7 @@ pub struct Fed {
     pub event_number: u32,
     pub line: Line,
     /// For each other hart the last record that has to come before: the source of the arc, the notice of an alert
-    /// event there, or the event whose notice stands directly before this record in its hart.
+    /// event there, or the event whose notice is the record of its hart before this one.
     pub needs: Arcs,
 }
 
@@ -21,11 +21,13 @@ pub struct Fed {
 pub trait Feed {
     ghost use Rattle.pl_event.specs.declared.fed.Fed.{Fed};
 
-    /// The lines still to come, each as it stands in the log of the run.
+    /// The lines still to come, each as in the log of the run.
     ghost rest: { Self → List Fed };
 
     /// The first of these, or none where none is left. Without memory nothing is taken.
     fn next(&mut self) -> Result<Option<Fed>, NoMemory>
-        ensures ok { IfOk result (λ fed. MatchOption fed ((rest self.old ≡ []) × (rest self.new ≡ [])) (λ first. rest self.old ≡ first ∷ rest self.new)) }
+        ensures ok { IfOk result (λ fed. MatchOption fed
+            ((rest self.old ≡ []) × (rest self.new ≡ []))
+            (λ first. rest self.old ≡ first ∷ rest self.new)) }
         ensures err { OnErr result (rest self.new ≡ rest self.old) };
 }

@@ -1,6 +1,7 @@
 //! How far each hart of a log is, line by line.
-ghost use Rattle.std.specs.Prelude.{◌≡◌, ℕ, ◌+◌, ◌-◌, ◌^◌, ◌<◌, ◌≤◌, List, slice_index, slice_index_or, Some};
+ghost use Rattle.std.specs.Prelude.{◌≡◌, ◌↔◌, ℕ, ◌+◌, ◌^◌, ◌<◌, List, slice_index, IsTrue};
 ghost use Rattle.pl_event.specs.declared.log.Line.{Line};
+ghost use Rattle.pl_event.specs.Conflicts.{HasNotice};
 ghost use Rattle.pl_event.specs.Numbers.{hart_of};
 ghost use Rattle.pl_event.specs.Records.{records_before};
 ghost use Rattle.pl_event.specs.Edges.{IsNotice, IsAfter, IsFlow};
@@ -13,6 +14,9 @@ use crate::log::{Arcs, Line, Point, Record};
 use crate::streams::record_hart;
 
 /// How far each hart of a log is: its records and events so far, and the notice that is its last record.
+///
+/// Each clause speaks of every log whose lines so far these are, so one value serves a log that is read, a log that is
+/// recorded and a log of which only a prefix is known.
 #[derive(Drop)]
 pub struct Heads {
     place: u32,
@@ -54,7 +58,9 @@ impl Heads {
         requires hart { hart < 8 }
         requires u { u < 8 }
         requires few { slice_index self.now.records hart + 1 < 2 ^ 32 }
-        ensures { (harts : ℕ) (lines : List Line) (i : ℕ) (line : Line) → IsFlow harts lines → Tells self.now lines i → IsNext lines i hart line → IsMost (λ n. IsNotice lines u n hart (records_before hart lines i + 1)) result }
+        ensures { (harts : ℕ) (lines : List Line) (i : ℕ) (line : Line) →
+            IsFlow harts lines → Tells self.now lines i → IsNext lines i hart line →
+            IsMost (λ n. IsNotice lines u n hart (records_before hart lines i + 1)) result }
     {
         match self.open[u as usize] {
             None => None,
@@ -68,11 +74,25 @@ impl Heads {
         }
     }
 
+    /// Whether hart u has a notice of the next record of this hart.
+    pub fn has_notice(&self, hart: u8, u: u8) -> bool
+        requires hart { hart < 8 }
+        requires u { u < 8 }
+        requires few { slice_index self.now.records hart + 1 < 2 ^ 32 }
+        ensures { (harts : ℕ) (lines : List Line) (i : ℕ) (line : Line) →
+            IsFlow harts lines → Tells self.now lines i → IsNext lines i hart line →
+            IsTrue result ↔ HasNotice lines u hart (records_before hart lines i + 1) }
+    {
+        self.notice(hart, u).is_some()
+    }
+
     // The record of hart u whose notice is the last record of this hart.
     fn noticed(&self, hart: u8, u: u8) -> Option<u32>
         requires hart { hart < 8 }
         requires u { u < 8 }
-        ensures { (harts : ℕ) (lines : List Line) (i : ℕ) (line : Line) → IsFlow harts lines → Tells self.now lines i → IsNext lines i hart line → IsMost (λ n. IsAfter lines u n hart (records_before hart lines i + 1)) result }
+        ensures { (harts : ℕ) (lines : List Line) (i : ℕ) (line : Line) →
+            IsFlow harts lines → Tells self.now lines i → IsNext lines i hart line →
+            IsMost (λ n. IsAfter lines u n hart (records_before hart lines i + 1)) result }
     {
         match self.open[hart as usize] {
             None => None,
@@ -85,7 +105,9 @@ impl Heads {
         requires hart { hart < 8 }
         requires u { u < 8 }
         requires few { slice_index self.now.records hart + 1 < 2 ^ 32 }
-        ensures { (harts : ℕ) (lines : List Line) (i : ℕ) → IsFlow harts lines → Tells self.now lines i → IsNext lines i hart line.now → result ≡ need_of lines u hart (records_before hart lines i + 1) }
+        ensures { (harts : ℕ) (lines : List Line) (i : ℕ) →
+            IsFlow harts lines → Tells self.now lines i → IsNext lines i hart line.now →
+            result ≡ need_of lines u hart (records_before hart lines i + 1) }
     {
         later(
             line.arcs.get(u),
@@ -93,11 +115,13 @@ impl Heads {
         )
     }
 
-    // What the next line, of this hart, needs of each hart.
-    fn needs(&self, line: &Line, hart: u8) -> Arcs
+    /// What the next line, of this hart, needs of each hart.
+    pub fn needs(&self, line: &Line, hart: u8) -> Arcs
         requires hart { hart < 8 }
         requires few { slice_index self.now.records hart + 1 < 2 ^ 32 }
-        ensures { (harts : ℕ) (lines : List Line) (i : ℕ) → IsFlow harts lines → Tells self.now lines i → IsNext lines i hart line.now → result ≡ needs_of lines hart (records_before hart lines i + 1) }
+        ensures { (harts : ℕ) (lines : List Line) (i : ℕ) →
+            IsFlow harts lines → Tells self.now lines i → IsNext lines i hart line.now →
+            result ≡ needs_of lines hart (records_before hart lines i + 1) }
     {
         let mut needs = Arcs::none();
         for u in 0..8u8 {
@@ -112,7 +136,9 @@ impl Heads {
         requires records { slice_index self.now.records (hart_of line.now.what) + 1 < 2 ^ 32 }
         requires place { self.now.place + 1 < 2 ^ 32 }
         requires events { slice_index self.now.events (hart_of line.now.what) + 1 < 2 ^ 32 }
-        ensures { (harts : ℕ) (lines : List Line) (i : ℕ) → IsFlow harts lines → Tells self.now lines i → IsNext lines i (hart_of line.now.what) line.now → result ≡ fed_at lines i line.now }
+        ensures { (harts : ℕ) (lines : List Line) (i : ℕ) →
+            IsFlow harts lines → Tells self.now lines i → IsNext lines i (hart_of line.now.what) line.now →
+            result ≡ fed_at lines i line.now }
     {
         let hart = record_hart(&line.what);
         let needs = self.needs(line, hart);
@@ -138,7 +164,9 @@ impl Heads {
         requires records { slice_index self.old.records (hart_of line.now.what) + 1 < 2 ^ 32 }
         requires place { self.old.place + 1 < 2 ^ 32 }
         requires events { slice_index self.old.events (hart_of line.now.what) + 1 < 2 ^ 32 }
-        ensures { (harts : ℕ) (lines : List Line) (i : ℕ) → IsFlow harts lines → Tells self.old lines i → IsNext lines i (hart_of line.now.what) line.now → Tells self.new lines (i + 1) }
+        ensures { (harts : ℕ) (lines : List Line) (i : ℕ) →
+            IsFlow harts lines → Tells self.old lines i → IsNext lines i (hart_of line.now.what) line.now →
+            Tells self.new lines (i + 1) }
     {
         let hart = record_hart(&line.what) as usize;
         self.records[hart] += 1;

@@ -8,6 +8,7 @@
 
 mod event;
 mod fed;
+mod feds;
 mod feeds;
 mod heads;
 mod lines;
@@ -15,15 +16,20 @@ mod log;
 mod order;
 mod packed;
 mod runs;
+mod short_logs;
+mod slots;
 mod streams;
 #[cfg(test)]
 mod tests;
 
 pub use event::{Event, Kind, is_alert, valid_event};
 pub use fed::{Fed, Feed};
+pub use feds::Feds;
 pub use feeds::fed_of;
+pub use heads::Heads;
 pub use lines::Lines;
 pub use log::{Arcs, Line, Log, PageKind, PageRun, PageRuns, Point, Record};
-pub use order::log_paths;
+pub use order::{first_unordered, grown_paths, log_paths, noticed_paths};
 pub use runs::mapped_pages;
+pub use short_logs::conflicts;
 pub use streams::{record_hart, stream};

@@ -4,10 +4,11 @@ ghost use Rattle.pl_event.specs.inner.Rows.{arcs_at};
 
 use crate::log::{Arcs, Line, Record};
 use crate::packed::{Packed, pack, unpack};
+use crate::slots::next_slot;
 use std::alloc::{AllocError, Global};
 use std::marker::Model;
 
-/// A record, and where its arcs stand: 0 for none, else one more than their place.
+/// A record in 16 bytes, with the slot of its arcs.
 #[derive(Clone, Copy)]
 pub struct Row {
     what: Packed,
@@ -16,7 +17,7 @@ pub struct Row {
 
 /// Lines, in order.
 ///
-/// Records stand side by side, and the arcs of the lines that have any stand apart, so a line without takes 16 bytes.
+/// Records lie side by side, and the arcs of the lines that have any are kept apart, so a line without takes 16 bytes.
 #[derive(Drop)]
 pub struct Lines {
     rows: Vec<Row>,
@@ -49,7 +50,8 @@ fn arcs_of(arcs: &[Arcs], slot: u32) -> Arcs
 }
 
 impl Lines {
-    ghost use Rattle.std.specs.Prelude.{[], ◌∷◌, ◌++◌, OnOk, OnErr, Some, None, IsTrue, ◌↔◌, replicate, slice_get, slice_index_or};
+    ghost use Rattle.std.specs.Prelude.{[], ◌∷◌, ◌++◌, OnOk, OnErr, Some, IsTrue, ◌↔◌, slice_get, slice_index_or};
+    ghost use Rattle.pl_event.specs.Edges.{no_arcs};
     ghost use Rattle.pl_event.specs.declared.log.Line.{Line};
 
     /// No line. No memory is taken.
@@ -100,7 +102,7 @@ impl Lines {
     /// One more record at the end, without arcs. Without memory the lines stay.
     #[inline]
     pub fn push_record(&mut self, what: Record) -> Result<(), AllocError>
-        ensures ok { OnOk result (self.new ≡ self.old ++ record { what = what; arcs = replicate 8 None } ∷ []) }
+        ensures ok { OnOk result (self.new ≡ self.old ++ record { what = what; arcs = no_arcs } ∷ []) }
         ensures err { OnErr result (self.new ≡ self.old) }
     {
         self.rows.push(Row {
@@ -110,20 +112,19 @@ impl Lines {
         Ok(())
     }
 
-    /// One more line at the end, with its arcs. Without memory the lines stay; there is room for 2^32 - 2 such lines.
+    /// One more line at the end, with its arcs. Without memory the lines stay, and where 2^32 - 1 lines have arcs.
     pub fn push(&mut self, line: Line) -> Result<(), AllocError>
         ensures ok { OnOk result (self.new ≡ self.old ++ line ∷ []) }
         ensures err { OnErr result (self.new ≡ self.old) }
     {
-        let slot = self.arcs.len() + 1;
-        if slot >= u32::MAX as usize {
+        let Some(slot) = next_slot(self.arcs.len()) else {
             return Err(AllocError);
-        }
+        };
         self.rows.reserve(1)?;
         self.arcs.push(line.arcs)?;
         self.rows.push(Row {
             what: pack(line.what),
-            slot: slot as u32,
+            slot,
         })?;
         Ok(())
     }

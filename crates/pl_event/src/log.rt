@@ -121,7 +121,7 @@ impl PageRuns {
         PageRuns { items }
     }
 
-    /// Gives the runs back; no memory is taken.
+    /// The runs as a vector; no memory is taken.
     pub fn into_vec(self) -> Vec<PageRun>
         ensures { result.items ≡ self }
     {

@@ -7,7 +7,7 @@ use crate::log::{Log, Record};
 use pl_base::NoMemory;
 use std::alloc::Global;
 
-/// In whose stream a record stands.
+/// The hart of whose stream a record is.
 pub fn record_hart(what: &Record) -> u8
     ensures { result ≡ hart_of what.now }
 {

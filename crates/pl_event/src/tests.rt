@@ -1,79 +1,30 @@
-//! Events, lines and streams on small values.
+//! Lines of a small log: kept, numbered, and as a worker takes them.
 ghost use Rattle.std.specs.Prelude.{◌≡◌, IfOk, length};
 ghost use Rattle.pl_event.specs.Edges.{IsFlow};
 
 use crate::{
-    Arcs, Event, Fed, Kind, Line, Lines, Log, PageKind, PageRun, PageRuns, Point, Record, fed_of,
-    is_alert, log_paths, stream, valid_event,
+    Arcs, Event, Fed, Feds, Kind, Line, Lines, Log, PageKind, PageRun, PageRuns, Point, Record,
+    conflicts, fed_of, first_unordered, grown_paths, is_alert, log_paths, mapped_pages,
+    noticed_paths, stream, valid_event,
 };
-use pl_base::{LoadWidth, StoreWidth};
+use pl_base::LoadWidth;
 use std::alloc::{AllocError, Global};
 use std::test::Fail;
 
-fn load(width: LoadWidth, addr: u32) -> Event {
-    Event {
+#[test]
+fn a_load_of_the_last_word_is_valid_and_no_alert(rt: HostRuntime) {
+    let load = |addr| Event {
         hart: 0,
         kind: Kind::Ld {
-            width,
+            width: LoadWidth::W,
             rd: 33,
             rb: 0,
             addr,
         },
-    }
-}
-
-#[test]
-fn a_load_is_valid_up_to_the_last_byte(rt: HostRuntime) {
-    assert!(rt; valid_event(&load(LoadWidth::Bu, 0xff_ffff), 1));
-    assert!(rt; valid_event(&load(LoadWidth::W, 0xff_fffc), 1));
-    assert!(rt; !valid_event(&load(LoadWidth::Hu, 0xff_ffff), 1));
-    assert!(rt; !valid_event(&load(LoadWidth::B, 0x100_0000), 1));
-    assert!(rt; !valid_event(&load(LoadWidth::B, 0), 0));
-}
-
-#[test]
-fn blocks_pages_and_bytes_from_or_to_outside_are_alerts(rt: HostRuntime) {
-    let (addr, len, page, count) = (0x40_0000, 16, 1024, 1);
-    for kind in [
-        Kind::Al { addr, len },
-        Kind::Fr { addr, len },
-        Kind::Mp { page, count },
-        Kind::Um { page, count },
-        Kind::Rd { addr, len },
-        Kind::Wr { addr, len },
-    ] {
-        assert!(rt; is_alert(&kind));
-    }
-    let (width, rv, rb) = (StoreWidth::W, 5, 6);
-    for kind in [
-        Kind::St {
-            width,
-            rv,
-            rb,
-            addr,
-        },
-        Kind::Bf { addr },
-        Kind::Ex,
-    ] {
-        assert!(rt; !is_alert(&kind));
-    }
-}
-
-#[test]
-fn runs_of_pages_come_back_as_they_were_given(rt: HostRuntime) -> Result<(), Fail> {
-    let run = |first, kind| PageRun {
-        first,
-        count: 2,
-        kind,
     };
-    let (data, stack) = (run(16, PageKind::Data), run(3840, PageKind::Stack));
-    let pages = PageRuns::from_vec([data].to_vec(rt.alloc())?);
-    assert_eq!(rt; pages.as_slice(), [data].as_slice());
-    let mut pages = pages.into_vec();
-    pages.push(stack)?;
-    let pages = PageRuns::from_vec(pages).into_vec();
-    assert_eq!(rt; pages.as_slice(), [data, stack].as_slice());
-    Ok(())
+    assert!(rt; valid_event(&load(0xff_fffc), 1));
+    assert!(rt; !valid_event(&load(0xff_fffe), 1));
+    assert!(rt; !is_alert(&load(0).kind));
 }
 
 /// Hart 1 is told of the first record of hart 0, that record comes, and hart 1 goes on after it.
@@ -95,7 +46,13 @@ fn told_log(alloc: Global) -> Result<Log, AllocError>
     let kind = Kind::Im { rd: 5 };
     let what = Record::Event(Event { hart: 1, kind });
     lines.push(Line { what, arcs })?;
-    let pages = PageRuns::new(alloc);
+    let run = PageRun {
+        first: 1024,
+        count: 16,
+        kind: PageKind::Heap,
+    };
+    let mut pages = PageRuns::new(alloc);
+    pages.push(run)?;
     Ok(Log {
         harts: 2,
         block: 16,
@@ -107,31 +64,45 @@ fn told_log(alloc: Global) -> Result<Log, AllocError>
 #[test]
 fn each_line_has_its_place_its_number_and_what_it_needs(rt: HostRuntime) -> Result<(), Fail> {
     log_paths();
+    grown_paths();
+    noticed_paths();
+    first_unordered();
+    mapped_pages();
+    conflicts();
     let log = told_log(rt.alloc())?;
     let (mut of_alert, mut of_notice) = (Arcs::none(), Arcs::none());
     of_alert.set(0, Some(1));
     of_notice.set(1, Some(1));
-    let alert = Fed {
-        place: 1,
-        event_number: 1,
-        line: log.lines.get(1),
-        needs: of_notice,
-    };
-    let notice = Fed {
-        place: 0,
-        event_number: 0,
-        line: log.lines.get(0),
-        needs: Arcs::none(),
-    };
-    let after = Fed {
-        place: 2,
-        event_number: 1,
-        line: log.lines.get(2),
-        needs: of_alert,
+    let fed = |place, event_number, at, needs| Fed {
+        place,
+        event_number,
+        line: log.lines.get(at),
+        needs,
     };
     let of_0 = fed_of(rt.alloc(), &log, 0).or(Err(AllocError))?;
     let of_1 = fed_of(rt.alloc(), &log, 1).or(Err(AllocError))?;
-    assert_eq!(rt; of_0.as_slice(), [alert].as_slice());
-    assert_eq!(rt; of_1.as_slice(), [notice, after].as_slice());
+    assert_eq!(rt; of_0.as_slice(), [fed(1, 1, 1, of_notice)].as_slice());
+    assert_eq!(rt;
+        of_1.as_slice(),
+        [fed(0, 0, 0, Arcs::none()), fed(2, 1, 2, of_alert)].as_slice()
+    );
+    Ok(())
+}
+
+#[test]
+fn what_a_worker_keeps_of_its_stream_is_the_stream(rt: HostRuntime) -> Result<(), Fail> {
+    let log = told_log(rt.alloc())?;
+    let mut kept = Feds::new(rt.alloc());
+    assert!(rt; kept.is_empty() && !log.lines.is_empty() && log.pages.as_slice().len() == 1);
+    let feds = fed_of(rt.alloc(), &log, 1).or(Err(AllocError))?;
+    for &fed in feds.as_slice() {
+        kept.push(fed)?;
+    }
+    assert_eq!(rt; kept.len(), 2);
+    let positions = stream(rt.alloc(), &log, 1).or(Err(AllocError))?;
+    assert_eq!(rt; positions.as_slice(), [0, 2].as_slice());
+    for (i, &fed) in feds.as_slice().iter().enumerate() {
+        assert_eq!(rt; if i < kept.len() { kept.get(i) } else { fed }, fed);
+    }
     Ok(())
 }

@@ -1,4 +1,4 @@
--- The record that a packed one stands for.
+-- The record that a packed one represents.
 use Rattle.std.specs.Prelude.{ℕ}
 use Rattle.pl_event.specs.declared.event.Kind.{Kind}
 use Rattle.pl_event.specs.declared.event.Kind.TheVariants as kind

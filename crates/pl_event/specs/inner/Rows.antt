@@ -1,11 +1,11 @@
--- A line as it is kept: its record, and where its arcs stand.
+-- A line as it is kept: its record, and the slot of its arcs.
 use Rattle.std.specs.Prelude.{ℕ, ◌≤◌, List, ◌∷◌, Option, slice_index_or, map, length, All}
 use Rattle.pl_event.specs.declared.log.Line.{Line}
 use Rattle.pl_event.specs.declared.lines.Row.{Row}
 use Rattle.pl_event.specs.Edges.{no_arcs}
 use Rattle.pl_event.specs.inner.Packing.{record_from}
 
--- slot 0 stands for no arcs, and each later one for the arcs before it
+-- slot 0 is for no arcs, and slot k + 1 for item k of the list
 abbrev pub arcs_at : List (List (Option ℕ)) → ℕ → List (Option ℕ)
 arcs_at arcs slot = slice_index_or (no_arcs ∷ arcs) slot no_arcs
 

@@ -28,7 +28,8 @@ listed log opening streams = record { log = log; opening = opening; operations =
 
 -- each hart of the log has as many records in its list as in the log
 abbrev pub HasRecords : Log → List (Vec RecordPlan Global) → Type 0
-HasRecords log streams = (h : ℕ) → h < log.harts → length (stream_of streams h) ≡ records_before h log.lines (length log.lines)
+HasRecords log streams = (h : ℕ) → h < log.harts
+    → length (stream_of streams h) ≡ records_before h log.lines (length log.lines)
 
 -- the needs of each record are those of the log
 abbrev pub HasNeeds : Log → List (Vec RecordPlan Global) → Type 0

@@ -1,19 +1,13 @@
 -- A hart that makes its operations in turn.
-use Rattle.std.specs.Prelude.{◌≡◌, ℕ, ◌^◌, ◌<◌, ◌≤◌, None, Some, slice_get}
+use Rattle.std.specs.Prelude.{◌≡◌, ℕ, ◌^◌, ◌<◌, ◌≤◌, None, slice_get}
 use Rattle.order_core.specs.declared.course.Course.{Course}
 use Rattle.order_core.specs.declared.course.Op.{Op}
 use Rattle.order_core.specs.Core.{Core, IsMet}
 use Rattle.order_core.specs.Counts.{writes_before}
-use Rattle.order_core.specs.Course.{Planned, course_of, length_of}
+use Rattle.order_core.specs.Course.{Planned, IsListed, course_of, length_of}
 
--- the plan has this operation i of record m of hart h
-pub record IsListed (plan : Planned) (h m i : ℕ) (o : Op) : Type 0 where
-  pub from_one : 1 ≤ m
-  pub number : m ≤ length_of (course_of plan) h
-  pub op : slice_get (plan.operations h m) i ≡ Some o
-
--- hart h has come to operation i of its record m: its writes before it are performed and no more, the needs of the record
--- are met, and the record is above its progress word
+-- hart h has come to operation i of its record m: its writes before it are performed and no more, the needs of the
+-- record are met, and the record is above its progress word
 pub record IsAt (c : Course) (k : Core) (h m i : ℕ) : Type 0 where
   pub writes : k.written h ≡ writes_before c h m i
   pub met : IsMet c (k.seen h) h m

@@ -9,7 +9,7 @@ ghost use Rattle.order_core.specs.declared.steps.Act.{Act};
 ghost use Rattle.order_core.specs.declared.steps.CoreStep.{CoreStep};
 ghost use Rattle.order_core.specs.Lanes.{lane, Lands};
 ghost use Rattle.order_core.specs.Course.{Planned, course_of, operation_of, last_lane, length_of};
-ghost use Rattle.order_core.specs.Lawful.{IsLawful, IsPlan, HasValues};
+ghost use Rattle.order_core.specs.Lawful.{IsLawful, IsLawfulPlan, HasValues};
 ghost use Rattle.order_core.specs.Core.{Core, opening_core, after_write, IsMet, IsPassed, IsCursor};
 ghost use Rattle.order_core.specs.Core.{IsConsistent, IsOpen, IsNextWrite, IsFinished};
 ghost use Rattle.order_core.specs.Runs.{Makes, IsReached};
@@ -22,8 +22,8 @@ ghost use Rattle.order_core.specs.Shapes.{Shape};
 ghost use Rattle.order_core.specs.Filled.{words_after, AllFit, filled_plan};
 
 /// The opening state is consistent, and each allowed step keeps a state so. In a consistent state a read that is open
-/// finds its value, a next write finds what the sequential run has before it, and at the end the words are the last ones
-/// of that run.
+/// finds its value, a next write finds what the sequential run has before it, and at the end the words are the last
+/// ones of that run.
 pub fn core_is_sequential()
     ensures opening { (c : Course) → ∥ IsLawful c ∥₁ → IsConsistent c (opening_core c) }
     ensures step { (c : Course) → ∥ IsLawful c ∥₁ → (k k' : Core) (h : ℕ) (act : Act) → IsConsistent c k →
@@ -33,9 +33,9 @@ pub fn core_is_sequential()
     ensures last { (c : Course) → ∥ IsLawful c ∥₁ → (k : Core) → IsConsistent c k → IsFinished c k → HasLastWords c k }
 {}
 
-/// A read is open when its hart comes to it. In a consistent state it stays open, and finds the same in its lanes, after
-/// each allowed step of another hart, and after each of its own hart that neither advertises its record nor performs a
-/// write that clashes with it.
+/// A read is open when its hart comes to it. In a consistent state it stays open, and finds the same in its lanes,
+/// after each allowed step of another hart, and after each of its own hart that neither advertises its record nor
+/// performs a write that clashes with it.
 pub fn open_reads()
     ensures opened { (plan : Planned) → ∥ IsLawful (course_of plan) ∥₁ → (k : Core) (h m i : ℕ) (o : Op) →
         HasTurn plan k h m i o → o.write ≡ false →
@@ -43,8 +43,8 @@ pub fn open_reads()
     ensures kept { (c : Course) → ∥ IsLawful c ∥₁ → (k : Core) → IsConsistent c k → ReadsStayOpen c k }
 {}
 
-/// A hart begins at its first record. Where it has come to a write, it may make it; after an operation it has come to the
-/// next one. At the end of a record it has passed the record, and has come to the next one where its needs are met.
+/// A hart begins at its first record. Where it has come to a write, it may make it; after an operation it has come to
+/// the next one. At the end of a record it has passed the record, and has come to the next one where its needs are met.
 pub fn operations_in_turn()
     ensures first { (plan : Planned) → ∥ IsLawful (course_of plan) ∥₁ → (h : ℕ) → IsMet (course_of plan) (λ u. 0) h 1 →
         IsAt (course_of plan) (opening_core (course_of plan)) h 1 0 }
@@ -80,9 +80,9 @@ pub fn waiting_harts()
         ((u need : ℕ) → WaitsFor c k h u need → ⊥) → IsMet c (k.seen h) h (k.progress h + 1) }
 {}
 
-/// In a consistent state each need of a hart that has advertised its last record is at most the progress word of the hart
-/// that it names. The state stays consistent where the hart then counts as one that has performed all its writes and seen
-/// each progress word, as it does once its seat is freed.
+/// In a consistent state each need of a hart that has advertised its last record is at most the progress word of the
+/// hart that it names. The state stays consistent where the hart then counts as one that has performed all its writes
+/// and seen each progress word, as it does once its seat is freed.
 pub fn freed_harts()
     ensures needs { (c : Course) (k : Core) → IsConsistent c k → (h : ℕ) → HasEnded c k h → (u n m : ℕ) →
         IsNeed c.log.lines u n h m → m ≤ length_of c h → n ≤ k.progress u }
@@ -92,11 +92,11 @@ pub fn freed_harts()
 
 /// That the operations of a plan are of records of its run, and in order, holds of each: the other laws make it lawful.
 pub fn plan_is_lawful()
-    ensures { (plan : Planned) → IsPlan plan → IsLawful (course_of plan) }
+    ensures { (plan : Planned) → IsLawfulPlan plan → IsLawful (course_of plan) }
 {}
 
-/// Where the operations of each record are filled from the words as they are, each read has its value, and the last words
-/// of the sequential run are the words after the last record.
+/// Where the operations of each record are filled from the words as they are, each read has its value, and the last
+/// words of the sequential run are the words after the last record.
 pub fn filled_values()
     ensures values { (shapes : ℕ → (ℕ → ℕ) → List Shape) (log : Log) (opening : List ℕ) →
         AllFit shapes opening (length log.lines) → HasValues (course_of (filled_plan shapes log opening)) }

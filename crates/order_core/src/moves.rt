@@ -3,10 +3,9 @@ ghost use Rattle.std.specs.Prelude.{◌≡◌, ℕ, ◌<◌, ◌≤◌, ◌↔�
 ghost use Rattle.order_core.specs.declared.course.Op.{Op};
 ghost use Rattle.order_core.specs.declared.course.Operation.{Operation};
 ghost use Rattle.order_core.specs.declared.steps.Act.TheVariants.{See, Advertise, Perform};
-ghost use Rattle.order_core.specs.Course.{course_of, At};
+ghost use Rattle.order_core.specs.Course.{course_of, At, IsListed};
 ghost use Rattle.order_core.specs.Lawful.{IsName};
 ghost use Rattle.order_core.specs.inner.Places.{place_of, end_of, ClashesAround};
-ghost use Rattle.order_core.specs.Turns.{IsListed};
 ghost use Rattle.order_core.specs.States.{core_of};
 ghost use Rattle.order_core.specs.inner.Kept.{Fits, IsMade, MayMake};
 
@@ -83,8 +82,10 @@ fn write<P: PlanOps>(plan: &P, state: &mut CoreState, hart: u8, at: Place, op: O
     requires is_write { op.write ≡ true }
     requires few { (core_of state.old).written hart < 4294967295 }
     ensures fits { result ≡ true → Fits (course_of (P.planned plan.now)) state.new }
-    ensures made { result ≡ true → IsMade (course_of (P.planned plan.now)) state.old hart (Perform at.number at.op) state.new }
-    ensures refused { result ≡ false → MayMake (course_of (P.planned plan.now)) state.old hart (Perform at.number at.op) → ⊥ }
+    ensures made { result ≡ true →
+        IsMade (course_of (P.planned plan.now)) state.old hart (Perform at.number at.op) state.new }
+    ensures refused { result ≡ false →
+        MayMake (course_of (P.planned plan.now)) state.old hart (Perform at.number at.op) → ⊥ }
 {
     let own = state.harts[hart as usize];
     if !is_same(at, own.next) {
@@ -135,8 +136,10 @@ fn read<P: PlanOps>(plan: &P, state: &mut CoreState, hart: u8, at: Place, op: Op
     requires op { IsListed (P.planned plan.now) hart at.number at.op op }
     requires is_read { op.write ≡ false }
     ensures fits { result ≡ true → Fits (course_of (P.planned plan.now)) state.new }
-    ensures made { result ≡ true → IsMade (course_of (P.planned plan.now)) state.old hart (Perform at.number at.op) state.new }
-    ensures refused { result ≡ false → MayMake (course_of (P.planned plan.now)) state.old hart (Perform at.number at.op) → ⊥ }
+    ensures made { result ≡ true →
+        IsMade (course_of (P.planned plan.now)) state.old hart (Perform at.number at.op) state.new }
+    ensures refused { result ≡ false →
+        MayMake (course_of (P.planned plan.now)) state.old hart (Perform at.number at.op) → ⊥ }
 {
     let own = state.harts[hart as usize];
     if at.number <= own.progress {
@@ -155,7 +158,8 @@ fn perform<P: PlanOps>(plan: &P, state: &mut CoreState, hart: u8, number: u32, o
     requires fits { Fits (course_of (P.planned plan.now)) state.old }
     requires few { (core_of state.old).written hart < 4294967295 }
     ensures fits { result ≡ true → Fits (course_of (P.planned plan.now)) state.new }
-    ensures made { result ≡ true → IsMade (course_of (P.planned plan.now)) state.old hart (Perform number op) state.new }
+    ensures made { result ≡ true →
+        IsMade (course_of (P.planned plan.now)) state.old hart (Perform number op) state.new }
     ensures refused { result ≡ false → MayMake (course_of (P.planned plan.now)) state.old hart (Perform number op) → ⊥ }
 {
     let at = Place { number, op };

@@ -64,8 +64,8 @@ fn make_all<P: PlanOps>(
 }
 
 /// Makes the steps, one after the other, from the opening state of the plan. In all it takes a time near the number of
-/// steps and of the records and operations that they pass; a read that is made out of its turn also passes the operations
-/// between it and its hart's next write.
+/// steps and of the records and operations that they pass; a read that is made out of its turn also passes the
+/// operations between it and its hart's next write.
 ///
 /// # Errors
 ///

@@ -13,8 +13,8 @@ use Rattle.order_core.specs.Core.{IsMet, IsPassed, IsCursor, MayWrite, MayRead}
 use Rattle.order_core.specs.Counts.{writes_before}
 use Rattle.order_core.specs.Lanes.{covers, Meets}
 use Rattle.order_core.specs.Lawful.{IsName}
-use Rattle.order_core.specs.Places.{place, operation_place, ClashesBetween}
-use Rattle.order_core.specs.States.{IsKept}
+use Rattle.order_core.specs.inner.Places.{place, operation_place, ClashesBetween}
+use Rattle.order_core.specs.inner.Kept.{IsKept}
 use Rattle.order_core.proofs.Counts.{rank_by_name, next_write}
 use Rattle.order_core.proofs.Known.{Known}
 use Rattle.order_core.proofs.Named.{op_of}

@@ -13,9 +13,10 @@ use Rattle.order_core.specs.Course.{Planned, At, course_of, length_of, operation
 use Rattle.order_core.specs.Core.{Core, IsMet, MayRead, put, after_see, after_advertise}
 use Rattle.order_core.specs.Lanes.{Lands}
 use Rattle.order_core.specs.Lawful.{IsName}
-use Rattle.order_core.specs.Places.{place, ClashesBetween}
+use Rattle.order_core.specs.inner.Places.{place, ClashesBetween}
 use Rattle.order_core.specs.Runs.{IsAllowed, Makes}
-use Rattle.order_core.specs.States.{hart_in, core_in, core_of, IsKept, Fits}
+use Rattle.order_core.specs.States.{hart_in, core_in, core_of}
+use Rattle.order_core.specs.inner.Kept.{IsKept, Fits}
 use Rattle.order_core.proofs.HartLemmas.{only_one, is_next, may_write, may_read, clear_read, seen_kept}
 use Rattle.order_core.proofs.Known.{Known}
 use Rattle.order_core.proofs.Named.{op_at}

@@ -6,7 +6,7 @@ use Rattle.pl_event.specs.declared.log.Line.{Line}
 use Rattle.pl_event.specs.Needs.{IsNeed, need_of, needs_of}
 use Rattle.order_core.specs.declared.course.Course.{Course}
 use Rattle.order_core.specs.Core.{IsMet}
-use Rattle.order_core.specs.Needs.{IsSeen, AreSeen}
+use Rattle.order_core.specs.inner.Needs.{IsSeen, AreSeen}
 use Rattle.order_core.proofs.Known.{Known}
 
 need_at : (lines : List Line) (h m u : ℕ) → u < 8 → slice_index_or (needs_of lines h m) u None ≡ need_of lines u h m

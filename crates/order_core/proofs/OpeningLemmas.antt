@@ -9,8 +9,9 @@ use Rattle.order_core.specs.Course.{Planned, At, course_of, length_of}
 use Rattle.order_core.specs.Core.{opening_core}
 use Rattle.order_core.specs.Counts.{writes_before}
 use Rattle.order_core.specs.Lawful.{IsName}
-use Rattle.order_core.specs.Places.{place}
-use Rattle.order_core.specs.States.{hart_in, core_in, IsKept, IsFresh}
+use Rattle.order_core.specs.inner.Places.{place}
+use Rattle.order_core.specs.States.{hart_in, core_in}
+use Rattle.order_core.specs.inner.Kept.{IsKept, IsFresh}
 use Rattle.order_core.proofs.Counts.{first_record}
 use Rattle.order_core.proofs.Known.{Known}
 use Rattle.order_core.proofs.Walks.{names, short}

@@ -8,7 +8,7 @@ use Rattle.order_core.specs.declared.course.Operation.{Operation}
 use Rattle.order_core.specs.Course.{At, rank, is_write_of}
 use Rattle.order_core.specs.Counts.{count_if, is_before, writes_before}
 use Rattle.order_core.specs.Lawful.{InOrder}
-use Rattle.order_core.specs.Places.{place, operation_place}
+use Rattle.order_core.specs.inner.Places.{place, operation_place}
 use Rattle.order_core.proofs.Counts.{before_true, before_false, rank_by_name, next_write}
 
 abbrev bit : Bool → ℕ

@@ -8,8 +8,8 @@ use Rattle.pl_event.specs.Records.{records_before}
 use Rattle.pl_event.proofs.Places as places
 use Rattle.order_core.specs.declared.course.Op.{Op}
 use Rattle.order_core.specs.declared.course.Operation.{Operation}
-use Rattle.order_core.specs.Course.{Planned, At, operation_of, operations_from, course_of, length_of, tagged}
-use Rattle.order_core.specs.Lawful.{IsInside, IsLawful, IsPlan, IsSoundOp}
+use Rattle.order_core.specs.Course.{Planned, IsListed, At, operation_of, operations_from, course_of, length_of, tagged}
+use Rattle.order_core.specs.Lawful.{IsInside, IsLawful, IsLawfulPlan, IsSoundOp}
 use Rattle.order_core.proofs.Flatten.{at_append, tag_of, course_in_order}
 use Rattle.order_core.proofs.Named.{op_of}
 
@@ -35,7 +35,7 @@ module _ (ops : ℕ → ℕ → List Op) (g : List Line) where
       (λ (r : (q : ℕ) × (p ≡ length head + q) × (get_elem? tail q ≡ some a)). from_line (suc i) rest (λ k. same (suc k) ∙ ap (get_elem? g) (omega arith)) r.0 a r.2)
       (at_append head tail p a e)
 
-module _ (plan : Planned) (parts : IsPlan plan) where
+module _ (plan : Planned) (parts : IsLawfulPlan plan) where
   inside : (p : ℕ) (a : Operation) → At (course_of plan) p a → IsInside (course_of plan) a
   inside p a at =
       let t = op_of plan p a at in
@@ -46,12 +46,17 @@ module _ (plan : Planned) (parts : IsPlan plan) where
       let own : records_before h plan.log.lines (f.position + 1) ≡ records_before h plan.log.lines f.position + 1 = places.before_own plan.log.lines f.position h f.line f.at refl in
       let up : records_before h plan.log.lines (f.position + 1) ≤ length_of (course_of plan) h = places.before_up plan.log.lines (f.position + 1) (length plan.log.lines) h (omega arith) in
       let number : a.number ≡ records_before h plan.log.lines f.position + 1 = f.number in
-      record {
-        hart = subst (λ (z : ℕ). z < plan.log.harts) (sym f.hart) low;
+      let listed : IsListed plan a.hart a.number a.op t.0 = record {
         from_one = omega arith;
         number = subst (λ (z : ℕ). a.number ≤ length_of (course_of plan) z) (sym f.hart) (omega arith);
-        op = parts.short a.hart a.number a.op t.0 t.1;
-        what = subst (λ (z : Operation). IsSoundOp (length plan.opening) z.what) (sym t.2) (parts.sound a.hart a.number a.op t.0 t.1);
+        op = t.1;
+      } in
+      record {
+        hart = subst (λ (z : ℕ). z < plan.log.harts) (sym f.hart) low;
+        from_one = listed.from_one;
+        number = listed.number;
+        op = parts.short a.hart a.number a.op t.0 listed;
+        what = subst (λ (z : Operation). IsSoundOp (length plan.opening) z.what) (sym t.2) (parts.sound a.hart a.number a.op t.0 listed);
       }
 
   pub plan_lawful : IsLawful (course_of plan)

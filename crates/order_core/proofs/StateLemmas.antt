@@ -5,7 +5,8 @@ use native.Mathlib.Decide.{ℕ_discrete}
 use Rattle.order_core.specs.declared.course.Course.{Course}
 use Rattle.order_core.specs.declared.state.HartState.{HartState}
 use Rattle.order_core.specs.Core.{put}
-use Rattle.order_core.specs.States.{hart_in, idle, core_in, IsKept, AreKept}
+use Rattle.order_core.specs.States.{hart_in, idle, core_in}
+use Rattle.order_core.specs.inner.Kept.{IsKept, AreKept}
 use Rattle.order_core.proofs.Ranks.{put_here, put_else}
 
 -- an element that is there is the same whatever is given for one that is not

@@ -5,12 +5,13 @@ use Rattle.order_core.specs.declared.course.Op.{Op}
 use Rattle.order_core.specs.declared.course.Operation.{Operation}
 use Rattle.order_core.specs.Lanes.{Meets}
 use Rattle.order_core.specs.Course.{Planned, At, course_of, operation_of, rank}
-use Rattle.order_core.specs.Core.{Core, IsOpen, IsNextWrite, put, after_write}
-use Rattle.order_core.specs.Places.{place, operation_place}
-use Rattle.order_core.specs.Turns.{IsAt, HasTurn}
-use Rattle.order_core.proofs.Counts.{rank_by_name, next_write, next_read}
+use Rattle.order_core.specs.Core.{Core, IsMet, IsOpen, IsNextWrite, IsPassed, opening_core, put, after_write}
+use Rattle.order_core.specs.inner.Places.{place, operation_place}
+use Rattle.order_core.specs.Counts.{writes_before}
+use Rattle.order_core.specs.Turns.{IsAt, HasTurn, IsAtEnd}
+use Rattle.order_core.proofs.Counts.{rank_by_name, next_write, next_read, no_more, next_record, first_record}
 use Rattle.order_core.proofs.Known.{Known}
-use Rattle.order_core.proofs.Named.{op_at}
+use Rattle.order_core.proofs.Named.{op_at, op_none}
 use Rattle.order_core.proofs.PlaceLemmas.{in_place, by_place, counted}
 use Rattle.order_core.proofs.Ranks.{put_here}
 use Rattle.order_core.proofs.Walks.{names, short}
@@ -52,3 +53,32 @@ module _ (plan : Planned) (is : Known (course_of plan)) (k : Core) (h m i : ℕ)
     met = turn.1.met;
     above = turn.1.above;
   }
+
+module _ (plan : Planned) (is : Known (course_of plan)) (h : ℕ) where
+  pub first_turn : IsMet (course_of plan) (λ u. 0) h 1 → IsAt (course_of plan) (opening_core (course_of plan)) h 1 0
+  first_turn met = record {
+    writes = sym (first_record (course_of plan) (names plan is) (short plan is) (λ p a at. (is.inside p a at).from_one) h);
+    met = met;
+    above = omega arith;
+  }
+
+  module _ (k : Core) (m i : ℕ) (end : IsAtEnd plan k h m i) where
+    -- its performed writes are those before the next record
+    all_written : k.written h ≡ writes_before (course_of plan) h (m + 1) 0
+    all_written =
+        let low : i < 4294967296 = end.small in
+        end.at.writes
+        ∙ (sym (no_more (course_of plan) (names plan is) (short plan is) h m i 4294967295 (omega arith) (op_none plan h m i end.no_more))
+        ∙ next_record (course_of plan) (names plan is) (short plan is) h m)
+
+    pub passes : IsPassed (course_of plan) (k.written h) (k.seen h) h m
+    passes = (
+      end.number,
+      end.at.met,
+      λ p a at own w low.
+          let small : a.op < 4294967295 = short plan is p a at in
+          (counted (course_of plan) (names plan is) (short plan is) h (m + 1) 0 (k.written h) p a (omega arith) all_written at own w).1 (omega arith),
+    )
+
+    pub next_turn : IsMet (course_of plan) (k.seen h) h (m + 1) → IsAt (course_of plan) k h (m + 1) 0
+    next_turn met = record { writes = all_written; met = met; above = (let low : k.progress h < m = end.at.above in omega arith) }

@@ -11,7 +11,7 @@ use Rattle.order_core.specs.Course.{Planned, At, course_of, length_of, operation
 use Rattle.order_core.specs.Counts.{writes_before}
 use Rattle.order_core.specs.Lanes.{Meets}
 use Rattle.order_core.specs.Lawful.{InOrder, IsName}
-use Rattle.order_core.specs.Places.{place, operation_place, ClashesIf, ClashesBetween}
+use Rattle.order_core.specs.inner.Places.{place, operation_place, ClashesIf, ClashesBetween}
 use Rattle.order_core.proofs.Counts.{next_read, no_more, next_record}
 use Rattle.order_core.proofs.Flatten.{course_in_order}
 use Rattle.order_core.proofs.Known.{Known}

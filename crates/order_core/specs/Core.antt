@@ -32,7 +32,8 @@ module _ (c : Course) where
   -- hart h has passed its records up to m: their needs are met and their writes performed
   abbrev pub IsPassed : ℕ → (ℕ → ℕ) → ℕ → ℕ → Type 0
   IsPassed written seen h m = (m ≤ length_of c h) × IsMet seen h m
-      × ((p : ℕ) (a : Operation) → At c p a → a.hart ≡ h → a.what.write ≡ true → a.number ≤ m → rank h c.operations p < written)
+      × ((p : ℕ) (a : Operation) → At c p a → a.hart ≡ h → a.what.write ≡ true → a.number ≤ m
+      → rank h c.operations p < written)
 
   -- the number of records that hart h has passed
   pub record IsCursor (written : ℕ) (seen : ℕ → ℕ) (h n : ℕ) : Type 0 where
@@ -41,12 +42,14 @@ module _ (c : Course) where
 
   -- the next write of the hart is the one at p, and the needs of its record are met
   abbrev pub MayWrite : ℕ → ℕ → (ℕ → ℕ) → ℕ → Operation → Type 0
-  MayWrite h written seen p a = At c p a × (a.what.write ≡ true) × (a.hart ≡ h) × (rank h c.operations p ≡ written) × IsMet seen h a.number
+  MayWrite h written seen p a = At c p a × (a.what.write ≡ true) × (a.hart ≡ h)
+      × (rank h c.operations p ≡ written) × IsMet seen h a.number
 
   -- the hart may make the read at p: the needs of its record are met, the record is above the progress word, and of the
   -- hart's writes that clash with it exactly those before it are performed
   abbrev pub MayRead : ℕ → ℕ → ℕ → (ℕ → ℕ) → ℕ → Operation → Type 0
-  MayRead h written progress seen p a = At c p a × (a.what.write ≡ false) × (a.hart ≡ h) × IsMet seen h a.number × (progress < a.number)
+  MayRead h written progress seen p a = At c p a × (a.what.write ≡ false) × (a.hart ≡ h)
+      × IsMet seen h a.number × (progress < a.number)
       × ((q : ℕ) (b : Operation) → At c q b → b.what.write ≡ true → b.hart ≡ h → Meets b.what a.what
       → (rank h c.operations q < written → q < p) × (q < p → rank h c.operations q < written))
 
@@ -72,7 +75,8 @@ module _ (c : Course) where
   pub record HasSoundProgress (k : Core) : Type 0 where
     pub passed : (h : ℕ) → IsPassed (k.written h) (k.seen h) h (k.progress h)
     pub seen : (h u : ℕ) → k.seen h u ≤ k.progress u
-    pub met : (p : ℕ) (a : Operation) → At c p a → a.what.write ≡ true → IsDone k.written p a → IsMet (k.seen a.hart) a.hart a.number
+    pub met : (p : ℕ) (a : Operation) → At c p a → a.what.write ≡ true → IsDone k.written p a
+        → IsMet (k.seen a.hart) a.hart a.number
 
   -- closed, with sound progress
   abbrev pub IsConsistent : Core → Type 0

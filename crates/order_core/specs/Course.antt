@@ -1,5 +1,5 @@
 -- The operations of a run in executed order, and what they leave in the words.
-use Rattle.std.specs.Prelude.{◌≡◌, ℕ, zero, suc, ◌+◌, Bool, true, ◌&&◌, nat_lt, ◌==◌, ◌⊎◌, List, [], ◌∷◌, ◌++◌, length, slice_index, if◌then◌else◌}
+use Rattle.std.specs.Prelude.{◌≡◌, ℕ, zero, suc, ◌+◌, ◌≤◌, Bool, true, ◌&&◌, nat_lt, ◌==◌, ◌⊎◌, List, [], ◌∷◌, ◌++◌, length, Some, slice_get, slice_index, if◌then◌else◌}
 use mathlib.Core.Option.{some}
 use lib.ListN.{get_elem?}
 use Rattle.pl_event.specs.declared.log.Line.{Line}
@@ -11,7 +11,7 @@ use Rattle.order_core.specs.declared.course.Op.{Op}
 use Rattle.order_core.specs.declared.course.Operation.{Operation}
 use Rattle.order_core.specs.Lanes.{lane, covers, Meets}
 
--- what a plan says: the log of a run, the words of the table at its start, and the operations of each hart's each record
+-- what a plan says: the log of a run, the words of the table at its start, and the operations of each record of each hart
 pub record Planned : Type 0 where
   pub log : Log
   pub opening : List ℕ
@@ -36,7 +36,11 @@ operations_from ops lines i (line ∷ rest) =
 
 -- the operations of a plan laid out in executed order
 abbrev pub course_of : Planned → Course
-course_of plan = record { log = plan.log; operations = operations_from plan.operations plan.log.lines 0 plan.log.lines; opening = plan.opening }
+course_of plan = record {
+  log = plan.log;
+  operations = operations_from plan.operations plan.log.lines 0 plan.log.lines;
+  opening = plan.opening;
+}
 
 -- the operation at position p of the executed order
 abbrev pub At : Course → ℕ → Operation → Type 0
@@ -62,7 +66,9 @@ writes_of c h = rank h c.operations (length c.operations)
 -- what the chosen writes leave in lane j of word w, which held v. The list begins at position k
 abbrev pub left_in : (ℕ → Operation → Bool) → ℕ → List Operation → ℕ → ℕ → ℕ → ℕ
 left_in chosen k [] w j v = v
-left_in chosen k (a ∷ rest) w j v = left_in chosen (suc k) rest w j (if chosen k a && (a.what.write && ((a.what.word == w) && covers a.what.lanes j)) then lane j a.what.value else v)
+left_in chosen k (a ∷ rest) w j v =
+    let is = chosen k a && (a.what.write && ((a.what.word == w) && covers a.what.lanes j)) in
+    left_in chosen (suc k) rest w j (if is then lane j a.what.value else v)
 
 -- what the chosen writes of the run leave in lane j of word w
 abbrev pub left_by : Course → (ℕ → Operation → Bool) → ℕ → ℕ → ℕ
@@ -83,3 +89,9 @@ last_lane c w j = left_by c (λ p a. true) w j
 -- how many records a hart has
 abbrev pub length_of : Course → ℕ → ℕ
 length_of c h = records_before h c.log.lines (length c.log.lines)
+
+-- the plan has this operation i of record m of hart h
+pub record IsListed (plan : Planned) (h m i : ℕ) (o : Op) : Type 0 where
+  pub from_one : 1 ≤ m
+  pub number : m ≤ length_of (course_of plan) h
+  pub op : slice_get (plan.operations h m) i ≡ Some o

@@ -20,4 +20,5 @@ HasValueOf o x = (j : ℕ) → j < 4 → covers o.lanes j ≡ true → lane j x 
 
 -- n is the word x with the value of o in its lanes
 abbrev pub Lands : Op → ℕ → ℕ → Type 0
-Lands o x n = (j : ℕ) → j < 4 → (covers o.lanes j ≡ true → lane j n ≡ lane j o.value) × (covers o.lanes j ≡ false → lane j n ≡ lane j x)
+Lands o x n = (j : ℕ) → j < 4
+    → (covers o.lanes j ≡ true → lane j n ≡ lane j o.value) × (covers o.lanes j ≡ false → lane j n ≡ lane j x)

@@ -1,5 +1,5 @@
 -- What a plan keeps.
-use Rattle.std.specs.Prelude.{◌≡◌, ◌≢◌, ℕ, ◌^◌, ◌<◌, ◌≤◌, ◌⊎◌, true, false, List, length, Some, slice_index, slice_get}
+use Rattle.std.specs.Prelude.{◌≡◌, ◌≢◌, ℕ, ◌^◌, ◌<◌, ◌≤◌, ◌⊎◌, true, false, List, length, slice_index}
 use Rattle.pl_event.specs.Graph.{Path}
 use Rattle.pl_event.specs.Edges.{Into}
 use Rattle.pl_event.specs.Conflicts.{IsOrdered}
@@ -8,7 +8,7 @@ use Rattle.order_core.specs.declared.course.Course.{Course}
 use Rattle.order_core.specs.declared.course.Op.{Op}
 use Rattle.order_core.specs.declared.course.Operation.{Operation}
 use Rattle.order_core.specs.Lanes.{lane, covers}
-use Rattle.order_core.specs.Course.{At, Clash, Planned, course_of, lane_before, length_of}
+use Rattle.order_core.specs.Course.{At, Clash, Planned, IsListed, course_of, lane_before, length_of}
 
 -- operation i of record n of hart h
 abbrev pub IsName : ℕ → ℕ → ℕ → Operation → Type 0
@@ -30,8 +30,10 @@ pub record IsInside (c : Course) (a : Operation) : Type 0 where
 
 -- the operations of a hart are in the order of its records, and of a record in the order of their numbers, with no gap
 pub record InOrder (c : Course) : Type 0 where
-  pub order : (p q : ℕ) (a b : Operation) → At c p a → At c q b → p < q → a.hart ≡ b.hart → (a.number < b.number) ⊎ ((a.number ≡ b.number) × (a.op < b.op))
-  pub dense : (p : ℕ) (a : Operation) (i : ℕ) → At c p a → i < a.op → (q : ℕ) × (b : Operation) × At c q b × IsName a.hart a.number i b
+  pub order : (p q : ℕ) (a b : Operation) → At c p a → At c q b → p < q → a.hart ≡ b.hart
+      → (a.number < b.number) ⊎ ((a.number ≡ b.number) × (a.op < b.op))
+  pub dense : (p : ℕ) (a : Operation) (i : ℕ) → At c p a → i < a.op
+      → (q : ℕ) × (b : Operation) × At c q b × IsName a.hart a.number i b
 
 -- each read's value is, in its lanes, what the operations before it leave there
 abbrev pub HasValues : Course → Type 0
@@ -59,13 +61,13 @@ pub record IsLawful (c : Course) : Type 0 where
   pub values : HasValues c
   pub paths : HasPaths c
 
--- what is left to be shown of a plan: that its operations are of records of the run and in order holds of each
-pub record IsPlan (plan : Planned) : Type 0 where
+-- the laws of a plan that are left to be shown: that its operations are of records of the run, and in order, holds always
+pub record IsLawfulPlan (plan : Planned) : Type 0 where
   pub log : IsRunLog plan.log
   pub few : length plan.log.lines < 4294967295
   pub ordered : IsOrdered plan.log
   pub table : IsTable plan.opening
-  pub short : (h m i : ℕ) (o : Op) → slice_get (plan.operations h m) i ≡ Some o → i < 4294967295
-  pub sound : (h m i : ℕ) (o : Op) → slice_get (plan.operations h m) i ≡ Some o → IsSoundOp (length plan.opening) o
+  pub short : (h m i : ℕ) (o : Op) → IsListed plan h m i o → i < 4294967295
+  pub sound : (h m i : ℕ) (o : Op) → IsListed plan h m i o → IsSoundOp (length plan.opening) o
   pub values : HasValues (course_of plan)
   pub paths : HasPaths (course_of plan)

@@ -1,6 +1,5 @@
 pub mod Lanes
 pub mod Course
-pub mod Places
 pub mod Counts
 pub mod Lawful
 pub mod Core
@@ -12,5 +11,5 @@ pub mod Outcomes
 pub mod Shapes
 pub mod Filled
 pub mod Lists
-pub mod Needs
 pub mod States
+pub mod inner

@@ -26,8 +26,8 @@ module _ (c : Course) where
   -- each read that is open stays open, with the same in its lanes, after each allowed step that is another hart's, or
   -- that leaves the read
   abbrev pub ReadsStayOpen : Core → Type 0
-  ReadsStayOpen k = (h p : ℕ) (a : Operation) → IsOpen c k h p a → (s : CoreStep) (k' : Core) → Makes c k s.hart s.act k'
-      → (s.hart ≢ h) ⊎ LeavesRead c h a s.act → StaysOpen c h p a k k'
+  ReadsStayOpen k = (h p : ℕ) (a : Operation) → IsOpen c k h p a
+      → (s : CoreStep) (k' : Core) → Makes c k s.hart s.act k' → (s.hart ≢ h) ⊎ LeavesRead c h a s.act → StaysOpen c h p a k k'
 
   -- the words of the table are those at the end of the sequential run
   abbrev pub HasLastWords : Core → Type 0
@@ -37,14 +37,16 @@ module _ (c : Course) where
   abbrev pub HasMove : Core → Type 0
   HasMove k = (s : CoreStep) × (k' : Core) × Makes c k s.hart s.act k' × (k' ≢ k)
 
-  -- no more steps that change the state follow each other than there are
+  -- no more steps that change the state follow each other than there are writes, and for each hart records of the others,
+  -- and records
   abbrev pub HasFewMoves : Core → Type 0
   HasFewMoves k = (more : List CoreStep) (k' : Core) → MovesAlong c k more k' → length more ≤ most_moves c
 
   -- at each step that performs a read the word holds the value of the sequential run
   abbrev pub ReadsAreSequential : List CoreStep → Type 0
-  ReadsAreSequential steps = (i : ℕ) (s : CoreStep) (k : Core) → slice_get steps i ≡ Some s → IsReached c (take i steps) k
-      → (p : ℕ) (a : Operation) → s.act ≡ Perform a.number a.op → IsOpen c k s.hart p a → HasValueOf a.what (k.word a.what.word)
+  ReadsAreSequential steps = (i : ℕ) (s : CoreStep) (k : Core) → slice_get steps i ≡ Some s
+      → IsReached c (take i steps) k → (p : ℕ) (a : Operation) → s.act ≡ Perform a.number a.op → IsOpen c k s.hart p a
+      → HasValueOf a.what (k.word a.what.word)
 
   -- the steps before step `at`, counted from 0, are allowed in turn, and this one is not
   pub record IsFirstRefused (steps : List CoreStep) (at : ℕ) : Type 0 where

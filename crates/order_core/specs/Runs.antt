@@ -19,12 +19,15 @@ module _ (c : Course) where
   -- cursor, perform the next write, or a read that is neither advertised nor overtaken by the hart's own writes
   abbrev pub IsAllowed : Core → ℕ → Act → Type 0
   IsAllowed k h (See of) = (h < c.log.harts) × (of < c.log.harts) × (of ≢ h)
-  IsAllowed k h (Advertise upto) = (h < c.log.harts) × (k.progress h ≤ upto) × IsPassed c (k.written h) (k.seen h) h upto
+  IsAllowed k h (Advertise upto) = (h < c.log.harts) × (k.progress h ≤ upto)
+      × IsPassed c (k.written h) (k.seen h) h upto
   IsAllowed k h (Perform number op) = (p : ℕ) × (a : Operation) × IsName h number op a × MayPerform h k p a
 
-  -- the state k' after hart h performs the operation at p: a write puts its value into its lanes, a read changes nothing
+  -- k' is the state after hart h performs the operation at p: a write puts its value into its lanes, a read changes
+  -- nothing
   abbrev pub Performs : ℕ → Core → ℕ → Operation → Core → Type 0
-  Performs h k p a k' = (IsNextWrite c k h p a × (n : ℕ) × Lands a.what (k.word a.what.word) n × (k' ≡ after_write k a n))
+  Performs h k p a k' = (IsNextWrite c k h p a × (n : ℕ) × Lands a.what (k.word a.what.word) n
+      × (k' ≡ after_write k a n))
       ⊎ (IsOpen c k h p a × (k' ≡ k))
 
   -- hart h may do this at k, and k' is the state after it
@@ -51,11 +54,13 @@ module _ (c : Course) where
   abbrev pub LeavesRead : ℕ → Operation → Act → Type 0
   LeavesRead h a (See of) = Unit {0}
   LeavesRead h a (Advertise upto) = upto < a.number
-  LeavesRead h a (Perform number op) = (q : ℕ) (b : Operation) → At c q b → IsName h number op b → b.what.write ≡ true → Meets b.what a.what → ⊥
+  LeavesRead h a (Perform number op) = (q : ℕ) (b : Operation) → At c q b → IsName h number op b
+      → b.what.write ≡ true → Meets b.what a.what → ⊥
 
   -- the read stays open, and finds the same in its lanes
   abbrev pub StaysOpen : ℕ → ℕ → Operation → Core → Core → Type 0
-  StaysOpen h p a k k' = IsOpen c k' h p a × ((j : ℕ) → j < 4 → covers a.what.lanes j ≡ true → lane j (k'.word a.what.word) ≡ lane j (k.word a.what.word))
+  StaysOpen h p a k k' = IsOpen c k' h p a
+      × ((j : ℕ) → j < 4 → covers a.what.lanes j ≡ true → lane j (k'.word a.what.word) ≡ lane j (k.word a.what.word))
 
 -- f 0 + .. + f (n - 1)
 abbrev pub total : ℕ → (ℕ → ℕ) → ℕ
@@ -68,4 +73,6 @@ total_but h n f = total n (λ u. if u == h then 0 else f u)
 
 -- all writes, for each hart the records of each other, and all records
 abbrev pub most_moves : Course → ℕ
-most_moves c = total c.log.harts (writes_of c) + total c.log.harts (λ h. total_but h c.log.harts (length_of c)) + total c.log.harts (length_of c)
+most_moves c =
+    let harts = c.log.harts in
+    total harts (writes_of c) + total harts (λ h. total_but h harts (length_of c)) + total harts (length_of c)

@@ -15,7 +15,13 @@ pub record Shape : Type 0 where
 
 -- with what it finds or puts, where its word holds x
 abbrev pub filled_op : ℕ → Shape → Op
-filled_op x s = record { word = s.word; lanes = s.lanes; write = s.write; check = s.check; value = if s.write then s.change x else x }
+filled_op x s = record {
+  word = s.word;
+  lanes = s.lanes;
+  write = s.write;
+  check = s.check;
+  value = if s.write then s.change x else x;
+}
 
 abbrev pub after_shape : (ℕ → ℕ) → Shape → (ℕ → ℕ)
 after_shape w s = if s.write then put w s.word (s.change (w s.word)) else w
@@ -40,7 +46,8 @@ AreFitting (s ∷ ss) = IsFitting s × AreFitting ss
 -- a read finds its word as it is, and a write leaves the lanes that it does not name
 abbrev pub IsFilled : (ℕ → ℕ) → Operation → Type 0
 IsFilled w a = (a.what.write ≡ false → a.what.value ≡ w a.what.word)
-    × (a.what.write ≡ true → (j : ℕ) → j < 4 → covers a.what.lanes j ≡ false → lane j a.what.value ≡ lane j (w a.what.word))
+    × (a.what.write ≡ true → (j : ℕ) → j < 4 → covers a.what.lanes j ≡ false
+    → lane j a.what.value ≡ lane j (w a.what.word))
 
 abbrev pub after_operation : (ℕ → ℕ) → Operation → (ℕ → ℕ)
 after_operation w a = if a.what.write then put w a.what.word a.what.value else w

@@ -1,19 +1,13 @@
 -- A hart that makes its operations in turn.
-use Rattle.std.specs.Prelude.{◌≡◌, ℕ, ◌<◌, ◌≤◌, Some, slice_get}
+use Rattle.std.specs.Prelude.{◌≡◌, ℕ, ◌^◌, ◌<◌, ◌≤◌, None, slice_get}
 use Rattle.order_core.specs.declared.course.Course.{Course}
 use Rattle.order_core.specs.declared.course.Op.{Op}
 use Rattle.order_core.specs.Core.{Core, IsMet}
 use Rattle.order_core.specs.Counts.{writes_before}
-use Rattle.order_core.specs.Course.{Planned, course_of, length_of}
+use Rattle.order_core.specs.Course.{Planned, IsListed, course_of, length_of}
 
--- the plan has this operation i of record m of hart h
-pub record IsListed (plan : Planned) (h m i : ℕ) (o : Op) : Type 0 where
-  pub from_one : 1 ≤ m
-  pub number : m ≤ length_of (course_of plan) h
-  pub op : slice_get (plan.operations h m) i ≡ Some o
-
--- hart h has come to operation i of its record m: its writes before it are performed and no more, the needs of the record
--- are met, and it is not advertised
+-- hart h has come to operation i of its record m: its writes before it are performed and no more, the needs of the
+-- record are met, and the record is above its progress word
 pub record IsAt (c : Course) (k : Core) (h m i : ℕ) : Type 0 where
   pub writes : k.written h ≡ writes_before c h m i
   pub met : IsMet c (k.seen h) h m
@@ -22,3 +16,10 @@ pub record IsAt (c : Course) (k : Core) (h m i : ℕ) : Type 0 where
 -- hart h has come to this operation of its record
 abbrev pub HasTurn : Planned → Core → ℕ → ℕ → ℕ → Op → Type 0
 HasTurn plan k h m i o = IsListed plan h m i o × IsAt (course_of plan) k h m i
+
+-- hart h has come to the end of its record m, which has i operations
+pub record IsAtEnd (plan : Planned) (k : Core) (h m i : ℕ) : Type 0 where
+  pub number : m ≤ length_of (course_of plan) h
+  pub small : i < 2 ^ 32
+  pub no_more : slice_get (plan.operations h m) i ≡ None
+  pub at : IsAt (course_of plan) k h m i

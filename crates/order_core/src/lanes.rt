@@ -1,7 +1,7 @@
 //! The lanes of a word that operations share and write.
 ghost use Rattle.std.specs.Prelude.{◌≡◌, ℕ, ◌+◌, ◌*◌, ◌/◌, ◌%◌, ◌^◌, ◌<◌, ◌≤◌, ◌==◌, ◌↔◌, IsTrue, if◌then◌else◌};
 ghost use Rattle.order_core.specs.Lanes.{lane, Lands, Meets};
-ghost use Rattle.order_core.specs.Places.{ClashesIf};
+ghost use Rattle.order_core.specs.inner.Places.{ClashesIf};
 
 use crate::course::Op;
 

@@ -1,10 +1,8 @@
 //! Making a plan of lists, and what it answers.
-ghost use Rattle.std.specs.Prelude.{◌≡◌, ℕ, ◌+◌, ◌-◌, ◌^◌, ◌<◌, Some, length, slice_get};
-ghost use Rattle.pl_event.specs.Records.{records_before};
-ghost use Rattle.pl_event.specs.Needs.{needs_of};
+ghost use Rattle.std.specs.Prelude.{◌≡◌, ◌<◌, length};
 ghost use Rattle.order_core.specs.Course.{course_of};
 ghost use Rattle.order_core.specs.Lawful.{IsLawful};
-ghost use Rattle.order_core.specs.Lists.{stream_of, listed};
+ghost use Rattle.order_core.specs.Lists.{stream_of, listed, HasRecords, HasNeeds};
 
 use crate::course::Op;
 use crate::list_plan::ListPlan;
@@ -13,14 +11,12 @@ use crate::record_plan::RecordPlan;
 use pl_event::{Arcs, Log};
 
 impl ListPlan {
-    ghost use Rattle.order_core.specs.declared.record_plan.RecordPlan.{RecordPlan};
-
     /// The plan of this log, these opening words, and for each hart these records.
     pub fn new(log: Log, opening: Vec<u64>, streams: Vec<Vec<RecordPlan>>) -> ListPlan
         requires lawful { ∥ IsLawful (course_of (listed log opening.items streams.items)) ∥₁ }
         requires harts { length streams.items ≡ log.harts }
-        requires records { (h : ℕ) → h < log.harts → length (stream_of streams.items h) ≡ records_before h log.lines (length log.lines) }
-        requires needs { (h m : ℕ) (r : RecordPlan) → h < log.harts → slice_get (stream_of streams.items h) m ≡ Some r → r.needs ≡ needs_of log.lines h (m + 1) }
+        requires records { HasRecords log streams.items }
+        requires needs { HasNeeds log streams.items }
         ensures log { result.log ≡ log }
         ensures opening { result.opening ≡ opening }
         ensures streams { result.streams ≡ streams }

@@ -1,13 +1,13 @@
 //! One step of a hart: whether it is allowed, and the state after it.
-ghost use Rattle.std.specs.Prelude.{◌≡◌, ℕ, ◌+◌, ◌<◌, ◌≤◌, ◌↔◌, ◌^◌, true, false, IsTrue, ◌⊎◌, None, Some, IfSome, length, slice_get};
+ghost use Rattle.std.specs.Prelude.{◌≡◌, ℕ, ◌<◌, ◌≤◌, ◌↔◌, true, false, IsTrue, None, IfSome};
 ghost use Rattle.order_core.specs.declared.course.Op.{Op};
 ghost use Rattle.order_core.specs.declared.course.Operation.{Operation};
 ghost use Rattle.order_core.specs.declared.steps.Act.TheVariants.{See, Advertise, Perform};
-ghost use Rattle.order_core.specs.Course.{course_of, length_of, At};
+ghost use Rattle.order_core.specs.Course.{course_of, At, IsListed};
 ghost use Rattle.order_core.specs.Lawful.{IsName};
-ghost use Rattle.order_core.specs.Places.{place, ClashesBetween};
-ghost use Rattle.order_core.specs.Runs.{IsAllowed, Makes};
-ghost use Rattle.order_core.specs.States.{core_of, Fits};
+ghost use Rattle.order_core.specs.inner.Places.{place_of, end_of, ClashesAround};
+ghost use Rattle.order_core.specs.States.{core_of};
+ghost use Rattle.order_core.specs.inner.Kept.{Fits, IsMade, MayMake};
 
 use crate::course::Op;
 use crate::lanes::put_lanes;
@@ -22,8 +22,8 @@ use crate::steps::{Act, CoreStep};
 fn see<P: PlanOps>(plan: &P, state: &mut CoreState, hart: u8, of: u8) -> bool
     requires fits { Fits (course_of (P.planned plan.now)) state.old }
     ensures fits { result ≡ true → Fits (course_of (P.planned plan.now)) state.new }
-    ensures made { result ≡ true → Makes (course_of (P.planned plan.now)) (core_of state.old) hart (See of) (core_of state.new) }
-    ensures refused { result ≡ false → IsAllowed (course_of (P.planned plan.now)) (core_of state.old) hart (See of) → ⊥ }
+    ensures made { result ≡ true → IsMade (course_of (P.planned plan.now)) state.old hart (See of) state.new }
+    ensures refused { result ≡ false → MayMake (course_of (P.planned plan.now)) state.old hart (See of) → ⊥ }
 {
     if plan.harts() <= hart || plan.harts() <= of || hart == of {
         return false;
@@ -39,8 +39,8 @@ fn see<P: PlanOps>(plan: &P, state: &mut CoreState, hart: u8, of: u8) -> bool
 fn advertise<P: PlanOps>(plan: &P, state: &mut CoreState, hart: u8, upto: u32) -> bool
     requires fits { Fits (course_of (P.planned plan.now)) state.old }
     ensures fits { result ≡ true → Fits (course_of (P.planned plan.now)) state.new }
-    ensures made { result ≡ true → Makes (course_of (P.planned plan.now)) (core_of state.old) hart (Advertise upto) (core_of state.new) }
-    ensures refused { result ≡ false → IsAllowed (course_of (P.planned plan.now)) (core_of state.old) hart (Advertise upto) → ⊥ }
+    ensures made { result ≡ true → IsMade (course_of (P.planned plan.now)) state.old hart (Advertise upto) state.new }
+    ensures refused { result ≡ false → MayMake (course_of (P.planned plan.now)) state.old hart (Advertise upto) → ⊥ }
 {
     if plan.harts() <= hart {
         return false;
@@ -63,8 +63,10 @@ fn advertise<P: PlanOps>(plan: &P, state: &mut CoreState, hart: u8, upto: u32) -
 
 // The operation of this name, where the run has one.
 fn named<P: PlanOps>(plan: &P, hart: u8, number: u32, op: u32) -> Option<Op>
-    ensures none { result ≡ None → (p : ℕ) (a : Operation) → At (course_of (P.planned plan.now)) p a → IsName hart number op a → ⊥ }
-    ensures some { IfSome result (λ o. (hart < (P.planned plan.now).log.harts) × (1 ≤ number) × (number ≤ length_of (course_of (P.planned plan.now)) hart) × (slice_get ((P.planned plan.now).operations hart number) op ≡ Some o)) }
+    ensures none { result ≡ None → (p : ℕ) (a : Operation) → At (course_of (P.planned plan.now)) p a →
+        IsName hart number op a → ⊥ }
+    ensures hart { IfSome result (λ o. hart < (P.planned plan.now).log.harts) }
+    ensures some { IfSome result (λ o. IsListed (P.planned plan.now) hart number op o) }
 {
     if plan.harts() <= hart || number == 0 || plan.len(hart) < number {
         return None;
@@ -76,14 +78,14 @@ fn named<P: PlanOps>(plan: &P, hart: u8, number: u32, op: u32) -> Option<Op>
 fn write<P: PlanOps>(plan: &P, state: &mut CoreState, hart: u8, at: Place, op: Op) -> bool
     requires fits { Fits (course_of (P.planned plan.now)) state.old }
     requires hart { hart < (P.planned plan.now).log.harts }
-    requires from_one { 1 ≤ at.number }
-    requires number { at.number ≤ length_of (course_of (P.planned plan.now)) hart }
-    requires op { slice_get ((P.planned plan.now).operations hart at.number) at.op ≡ Some op }
+    requires op { IsListed (P.planned plan.now) hart at.number at.op op }
     requires is_write { op.write ≡ true }
     requires few { (core_of state.old).written hart < 4294967295 }
     ensures fits { result ≡ true → Fits (course_of (P.planned plan.now)) state.new }
-    ensures made { result ≡ true → Makes (course_of (P.planned plan.now)) (core_of state.old) hart (Perform at.number at.op) (core_of state.new) }
-    ensures refused { result ≡ false → IsAllowed (course_of (P.planned plan.now)) (core_of state.old) hart (Perform at.number at.op) → ⊥ }
+    ensures made { result ≡ true →
+        IsMade (course_of (P.planned plan.now)) state.old hart (Perform at.number at.op) state.new }
+    ensures refused { result ≡ false →
+        MayMake (course_of (P.planned plan.now)) state.old hart (Perform at.number at.op) → ⊥ }
 {
     let own = state.harts[hart as usize];
     if !is_same(at, own.next) {
@@ -115,11 +117,11 @@ fn write<P: PlanOps>(plan: &P, state: &mut CoreState, hart: u8, at: Place, op: O
 fn is_overtaken<P: PlanOps>(plan: &P, hart: u8, next: Place, at: Place, read: Op) -> bool
     requires hart { hart < (P.planned plan.now).log.harts }
     requires next_from { 1 ≤ next.number }
-    requires next { place next.number next.op ≤ place (length_of (course_of (P.planned plan.now)) hart + 1) 0 }
+    requires next { place_of next ≤ end_of (course_of (P.planned plan.now)) hart }
     requires from_one { 1 ≤ at.number }
-    requires within { place at.number at.op ≤ place (length_of (course_of (P.planned plan.now)) hart + 1) 0 }
+    requires within { place_of at ≤ end_of (course_of (P.planned plan.now)) hart }
     requires lanes { read.lanes ≤ 15 }
-    ensures { IsTrue result ↔ (ClashesBetween (course_of (P.planned plan.now)) hart read (place at.number at.op) (place next.number next.op) ⊎ ClashesBetween (course_of (P.planned plan.now)) hart read (place next.number next.op) (place at.number at.op)) }
+    ensures { IsTrue result ↔ ClashesAround (course_of (P.planned plan.now)) hart read (place_of at) (place_of next) }
 {
     if is_earlier(at, next) {
         return has_clash(plan, hart, at, next, read);
@@ -131,13 +133,13 @@ fn is_overtaken<P: PlanOps>(plan: &P, hart: u8, next: Place, at: Place, read: Op
 fn read<P: PlanOps>(plan: &P, state: &mut CoreState, hart: u8, at: Place, op: Op) -> bool
     requires fits { Fits (course_of (P.planned plan.now)) state.old }
     requires hart { hart < (P.planned plan.now).log.harts }
-    requires from_one { 1 ≤ at.number }
-    requires number { at.number ≤ length_of (course_of (P.planned plan.now)) hart }
-    requires op { slice_get ((P.planned plan.now).operations hart at.number) at.op ≡ Some op }
+    requires op { IsListed (P.planned plan.now) hart at.number at.op op }
     requires is_read { op.write ≡ false }
     ensures fits { result ≡ true → Fits (course_of (P.planned plan.now)) state.new }
-    ensures made { result ≡ true → Makes (course_of (P.planned plan.now)) (core_of state.old) hart (Perform at.number at.op) (core_of state.new) }
-    ensures refused { result ≡ false → IsAllowed (course_of (P.planned plan.now)) (core_of state.old) hart (Perform at.number at.op) → ⊥ }
+    ensures made { result ≡ true →
+        IsMade (course_of (P.planned plan.now)) state.old hart (Perform at.number at.op) state.new }
+    ensures refused { result ≡ false →
+        MayMake (course_of (P.planned plan.now)) state.old hart (Perform at.number at.op) → ⊥ }
 {
     let own = state.harts[hart as usize];
     if at.number <= own.progress {
@@ -156,8 +158,9 @@ fn perform<P: PlanOps>(plan: &P, state: &mut CoreState, hart: u8, number: u32, o
     requires fits { Fits (course_of (P.planned plan.now)) state.old }
     requires few { (core_of state.old).written hart < 4294967295 }
     ensures fits { result ≡ true → Fits (course_of (P.planned plan.now)) state.new }
-    ensures made { result ≡ true → Makes (course_of (P.planned plan.now)) (core_of state.old) hart (Perform number op) (core_of state.new) }
-    ensures refused { result ≡ false → IsAllowed (course_of (P.planned plan.now)) (core_of state.old) hart (Perform number op) → ⊥ }
+    ensures made { result ≡ true →
+        IsMade (course_of (P.planned plan.now)) state.old hart (Perform number op) state.new }
+    ensures refused { result ≡ false → MayMake (course_of (P.planned plan.now)) state.old hart (Perform number op) → ⊥ }
 {
     let at = Place { number, op };
     match named(plan, hart, number, op) {
@@ -172,8 +175,8 @@ pub(crate) fn make<P: PlanOps>(plan: &P, state: &mut CoreState, step: CoreStep) 
     requires fits { Fits (course_of (P.planned plan.now)) state.old }
     requires few { (core_of state.old).written step.hart < 4294967295 }
     ensures fits { result ≡ true → Fits (course_of (P.planned plan.now)) state.new }
-    ensures made { result ≡ true → Makes (course_of (P.planned plan.now)) (core_of state.old) step.hart step.act (core_of state.new) }
-    ensures refused { result ≡ false → IsAllowed (course_of (P.planned plan.now)) (core_of state.old) step.hart step.act → ⊥ }
+    ensures made { result ≡ true → IsMade (course_of (P.planned plan.now)) state.old step.hart step.act state.new }
+    ensures refused { result ≡ false → MayMake (course_of (P.planned plan.now)) state.old step.hart step.act → ⊥ }
 {
     match step.act {
         Act::See { of } => see(plan, state, step.hart, of),

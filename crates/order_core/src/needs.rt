@@ -2,7 +2,7 @@
 ghost use Rattle.std.specs.Prelude.{◌≡◌, ℕ, ◌+◌, ◌<◌, ◌≤◌, ◌↔◌, ◌⊎◌, IsTrue, Option, Some, None, length, max, slice_index, slice_index_or};
 ghost use Rattle.order_core.specs.Course.{course_of, length_of};
 ghost use Rattle.order_core.specs.Core.{IsMet};
-ghost use Rattle.order_core.specs.Needs.{IsSeen, AreSeen};
+ghost use Rattle.order_core.specs.inner.Needs.{IsSeen, AreSeen};
 
 use crate::plan::PlanOps;
 use pl_event::Arcs;
@@ -43,7 +43,8 @@ pub(crate) fn met_up_to<P: PlanOps>(
     requires met { IsMet (course_of (P.planned plan.now)) (slice_index seen.now) hart from }
     ensures met { IsMet (course_of (P.planned plan.now)) (slice_index seen.now) hart result }
     ensures low { result ≤ length_of (course_of (P.planned plan.now)) hart }
-    ensures most { (m : ℕ) → m ≤ upto → IsMet (course_of (P.planned plan.now)) (slice_index seen.now) hart m → m ≤ result }
+    ensures most { (m : ℕ) → m ≤ upto →
+        IsMet (course_of (P.planned plan.now)) (slice_index seen.now) hart m → m ≤ result }
 {
     for number in from..upto {
         if !are_seen(plan.needs(hart, number + 1), seen) {

@@ -1,7 +1,8 @@
 //! The state at the start of a run.
 ghost use Rattle.std.specs.Prelude.{◌≡◌, ℕ, ◌<◌, IfOk};
 ghost use Rattle.order_core.specs.Course.{course_of};
-ghost use Rattle.order_core.specs.States.{hart_in, AreKept, IsFresh};
+ghost use Rattle.order_core.specs.States.{hart_in};
+ghost use Rattle.order_core.specs.inner.Kept.{AreKept, IsFresh};
 
 use crate::place::Place;
 use crate::plan::PlanOps;

@@ -1,6 +1,6 @@
 //! Places in the stream of a hart.
 ghost use Rattle.std.specs.Prelude.{◌≡◌, ◌+◌, ◌<◌, ◌↔◌, IsTrue, IsSome};
-ghost use Rattle.order_core.specs.Places.{place};
+ghost use Rattle.order_core.specs.inner.Places.{place_of};
 
 /// Where an operation stands in its hart's stream: operation `op`, from 0, of record `number`, from 1.
 #[derive(Clone, Copy, Debug)]
@@ -11,14 +11,14 @@ pub(crate) struct Place {
 
 // Whether the first place stands before the second.
 pub(crate) fn is_earlier(a: Place, b: Place) -> bool
-    ensures { IsTrue result ↔ (place a.number a.op < place b.number b.op) }
+    ensures { IsTrue result ↔ (place_of a < place_of b) }
 {
     a.number < b.number || (a.number == b.number && a.op < b.op)
 }
 
 // Whether they are one place.
 pub(crate) fn is_same(a: Place, b: Place) -> bool
-    ensures { IsTrue result ↔ (place a.number a.op ≡ place b.number b.op) }
+    ensures { IsTrue result ↔ (place_of a ≡ place_of b) }
 {
     a.number == b.number && a.op == b.op
 }

@@ -9,8 +9,8 @@ pub trait Plan {
     ghost use Rattle.order_core.specs.Course.{Planned, course_of};
     ghost use Rattle.order_core.specs.Lawful.{IsLawful};
 
-    /// The log of the run, the words of the table at its start, and the operations of each record, with the values of the
-    /// sequential run from these words.
+    /// The log of the run, the words of the table at its start, and the operations of each record, with the values of
+    /// the sequential run from these words.
     ghost planned: { Self → Planned };
 
     fn harts(&self) -> u8

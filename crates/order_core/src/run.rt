@@ -3,7 +3,8 @@ ghost use Rattle.std.specs.Prelude.{◌≡◌, ℕ, ◌+◌, ◌<◌, ◌≤◌,
 ghost use Rattle.order_core.specs.Course.{course_of};
 ghost use Rattle.order_core.specs.Core.{opening_core, IsCursor, IsConsistent, IsFinished};
 ghost use Rattle.order_core.specs.Runs.{IsReached};
-ghost use Rattle.order_core.specs.States.{hart_in, core_of, word_count, IsKept, AreKept, Fits};
+ghost use Rattle.order_core.specs.States.{hart_in, core_of, word_count};
+ghost use Rattle.order_core.specs.inner.Kept.{IsKept, AreKept, Fits};
 ghost use Rattle.order_core.specs.Outcomes.{IsFirstRefused, IsRefusal, HasCursors};
 ghost use Rattle.order_core.specs.Outcomes.{ReadsAreSequential, ReadsStayOpen, HasLastWords, HasMove, HasFewMoves};
 ghost use Rattle.order_core.specs.declared.refused.CoreRefused.TheVariants.{NotAble, NoMemory};
@@ -31,7 +32,8 @@ fn cursor_now<P: PlanOps>(plan: &P, hart: u8, own: HartState) -> u32
 fn cursors_now<P: PlanOps>(plan: &P, harts: &[HartState; 8]) -> [u32; 8]
     requires { AreKept (course_of (P.planned plan.now)) harts.now }
     ensures others { (h : ℕ) → (P.planned plan.now).log.harts ≤ h → slice_index result h ≡ 0 }
-    ensures harts { (h : ℕ) → h < (P.planned plan.now).log.harts → IsCursor (course_of (P.planned plan.now)) (hart_in harts.now h).written (slice_index (hart_in harts.now h).seen) h (slice_index result h) }
+    ensures harts { (h : ℕ) → h < (P.planned plan.now).log.harts → let own = hart_in harts.now h in
+        IsCursor (course_of (P.planned plan.now)) own.written (slice_index own.seen) h (slice_index result h) }
 {
     let mut cursors = [0; 8];
     for hart in 0..plan.harts() {
@@ -51,7 +53,7 @@ fn make_all<P: PlanOps>(
     requires few { length steps.now < 2 ^ 32 }
     ensures fits { IfOk result (λ _. Fits (course_of (P.planned plan.now)) state.new) }
     ensures made { IfOk result (λ _. IsReached (course_of (P.planned plan.now)) steps.now (core_of state.new)) }
-    ensures refused { IfErr result (λ first. IsFirstRefused (course_of (P.planned plan.now)) steps.now first.at) }
+    ensures refused { IfErr result (λ e. IsFirstRefused (course_of (P.planned plan.now)) steps.now e.at) }
 {
     for (at, step) in steps.iter().enumerate() {
         if !make(plan, state, *step) {
@@ -62,8 +64,8 @@ fn make_all<P: PlanOps>(
 }
 
 /// Makes the steps, one after the other, from the opening state of the plan. In all it takes a time near the number of
-/// steps and of the records and operations that they pass; a read that is made out of its turn also passes the operations
-/// between it and its hart's next write.
+/// steps and of the records and operations that they pass; a read that is made out of its turn also passes the
+/// operations between it and its hart's next write.
 ///
 /// # Errors
 ///

@@ -1,11 +1,8 @@
 //! The next write of a hart, and the writes that clash with a read.
-ghost use Rattle.std.specs.Prelude.{◌≡◌, ℕ, ◌+◌, ◌<◌, ◌≤◌, ◌↔◌, true, false, IsTrue, MatchOption, Option, length};
-ghost use Rattle.order_core.specs.declared.course.Op.{Op};
-ghost use Rattle.order_core.specs.Course.{course_of, length_of, At};
+ghost use Rattle.std.specs.Prelude.{◌≡◌, ℕ, ◌+◌, ◌<◌, ◌≤◌, ◌↔◌, true, false, IsTrue, MatchOption};
+ghost use Rattle.order_core.specs.Course.{course_of, length_of};
 ghost use Rattle.order_core.specs.Counts.{writes_before};
-ghost use Rattle.order_core.specs.Lawful.{IsName};
-ghost use Rattle.order_core.specs.Places.{place, ClashesBetween};
-ghost use Rattle.order_core.specs.declared.course.Operation.{Operation};
+ghost use Rattle.order_core.specs.inner.Places.{place_of, end_of, HasWriteAt, ClashesBetween};
 
 use crate::course::Op;
 use crate::lanes::is_clashing;
@@ -26,7 +23,8 @@ fn is_write(found: Option<Op>) -> bool
 fn next_place(at: Place, found: Option<Op>) -> Place
     requires number { at.number < 4294967295 }
     requires op { MatchOption found (Unit {0}) (λ op. at.op < 4294967295) }
-    ensures { MatchOption found (result ≡ record { number = at.number + 1; op = 0 }) (λ op. result ≡ record { number = at.number; op = at.op + 1 }) }
+    ensures { MatchOption found (result ≡ record { number = at.number + 1; op = 0 })
+        (λ op. result ≡ record { number = at.number; op = at.op + 1 }) }
 {
     match found {
         None => Place {
@@ -44,11 +42,13 @@ fn next_place(at: Place, found: Option<Op>) -> Place
 pub(crate) fn seek<P: PlanOps>(plan: &P, hart: u8, from: Place) -> Place
     requires hart { hart < (P.planned plan.now).log.harts }
     requires from_one { 1 ≤ from.number }
-    requires within { place from.number from.op ≤ place (length_of (course_of (P.planned plan.now)) hart + 1) 0 }
+    requires within { place_of from ≤ end_of (course_of (P.planned plan.now)) hart }
     ensures from_one { 1 ≤ result.number }
-    ensures within { place result.number result.op ≤ place (length_of (course_of (P.planned plan.now)) hart + 1) 0 }
-    ensures count { let c = course_of (P.planned plan.now) in writes_before c hart result.number result.op ≡ writes_before c hart from.number from.op }
-    ensures there { let c = course_of (P.planned plan.now) in result.number ≤ length_of c hart → (p : ℕ) × (a : Operation) × At c p a × IsName hart result.number result.op a × (a.what.write ≡ true) }
+    ensures within { place_of result ≤ end_of (course_of (P.planned plan.now)) hart }
+    ensures count { let c = course_of (P.planned plan.now) in
+        writes_before c hart result.number result.op ≡ writes_before c hart from.number from.op }
+    ensures there { let c = course_of (P.planned plan.now) in
+        result.number ≤ length_of c hart → HasWriteAt c hart result }
 {
     let len = plan.len(hart);
     let mut at = from;
@@ -66,9 +66,9 @@ pub(crate) fn seek<P: PlanOps>(plan: &P, hart: u8, from: Place) -> Place
 pub(crate) fn has_clash<P: PlanOps>(plan: &P, hart: u8, from: Place, to: Place, read: Op) -> bool
     requires hart { hart < (P.planned plan.now).log.harts }
     requires from_one { 1 ≤ from.number }
-    requires within { place to.number to.op ≤ place (length_of (course_of (P.planned plan.now)) hart + 1) 0 }
+    requires within { place_of to ≤ end_of (course_of (P.planned plan.now)) hart }
     requires lanes { read.lanes ≤ 15 }
-    ensures { let c = course_of (P.planned plan.now) in IsTrue result ↔ ClashesBetween c hart read (place from.number from.op) (place to.number to.op) }
+    ensures { IsTrue result ↔ ClashesBetween (course_of (P.planned plan.now)) hart read (place_of from) (place_of to) }
 {
     let mut at = from;
     while is_earlier(at, to) {

@@ -15,14 +15,14 @@ returns-then-at-own-clause-refused g c _ =
     let plan = c.args.plan.now in
     let k : Course = course_of (g.P.Plan.planned plan) in
     let is : Known k = known k (g.met.P.Plan.lawful plan) in
-    not_above (g.P.Plan.planned plan) is c.args.state.now c.requires.fits c.args.hart c.requires.hart c.args.at.number c.args.at.op c.args.op c.requires.from_one c.requires.number c.requires.op c.requires.is_read (omega arith)
+    not_above (g.P.Plan.planned plan) is c.args.state.now c.requires.fits c.args.hart c.requires.hart c.args.at.number c.args.at.op c.args.op c.requires.op.from_one c.requires.op.number c.requires.op.op c.requires.is_read (omega arith)
 
 pub is_overtaken-requires-clause-lanes : goal.is_overtaken-requires-clause-lanes
 is_overtaken-requires-clause-lanes g c =
     let plan = c.args.plan.now in
     let k : Course = course_of (g.P.Plan.planned plan) in
     let is : Known k = known k (g.met.P.Plan.lawful plan) in
-    lanes_low (g.P.Plan.planned plan) is c.args.state.now c.requires.fits c.args.hart c.requires.hart c.args.at.number c.args.at.op c.args.op c.requires.from_one c.requires.number c.requires.op
+    lanes_low (g.P.Plan.planned plan) is c.args.state.now c.requires.fits c.args.hart c.requires.hart c.args.at.number c.args.at.op c.args.op c.requires.op.from_one c.requires.op.number c.requires.op.op
 
 pub returns-then-met-at-clause-refused : goal.returns-then-met-at-clause-refused
 returns-then-met-at-clause-refused g c _ =
@@ -36,7 +36,7 @@ returns-then-met-at-clause-refused g c _ =
           not_met (g.P.Plan.planned plan) is c.args.state.now c.requires.fits c.args.hart c.requires.hart c.args.at.number c.args.at.op missing
       | then-met-at-via-else-met-at+then-is_overtaken w ↦
           let t : IsTrue w.is_overtaken.result = (let f = w.if-is_overtaken.true in search rules) in
-          not_clear (g.P.Plan.planned plan) is c.args.state.now c.requires.fits c.args.hart c.requires.hart c.args.at.number c.args.at.op c.args.op c.requires.from_one c.requires.number c.requires.op c.requires.is_read (λ clear. ⊎_elim clear.0 clear.1 (w.is_overtaken.ensures.0 t))
+          not_clear (g.P.Plan.planned plan) is c.args.state.now c.requires.fits c.args.hart c.requires.hart c.args.at.number c.args.at.op c.args.op c.requires.op.from_one c.requires.op.number c.requires.op.op c.requires.is_read (λ clear. ⊎_elim clear.0 clear.1 (w.is_overtaken.ensures.0 t))
     ]
 
 pub returns-clause-fits : goal.returns-clause-fits
@@ -57,5 +57,5 @@ returns-clause-made g c _ =
     let up : own.progress < c.args.at.number = omega arith in
     let le : c.args.at.number ≤ c.met_up_to-met.result = omega arith in
     let not : IsTrue c.is_overtaken.result → ⊥ = (λ t. let f = c.if-is_overtaken.false in search rules) in
-    read (g.P.Plan.planned plan) is c.args.state.now c.requires.fits c.args.hart c.requires.hart c.args.at.number c.args.at.op c.args.op c.requires.from_one c.requires.number c.requires.op c.requires.is_read c.met_up_to-met.result c.met_up_to-met.ensures.met le up
+    read (g.P.Plan.planned plan) is c.args.state.now c.requires.fits c.args.hart c.requires.hart c.args.at.number c.args.at.op c.args.op c.requires.op.from_one c.requires.op.number c.requires.op.op c.requires.is_read c.met_up_to-met.result c.met_up_to-met.ensures.met le up
     ((λ t. not (c.is_overtaken.ensures.1 (inl t))), (λ t. not (c.is_overtaken.ensures.1 (inr t))))

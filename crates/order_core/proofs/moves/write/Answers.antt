@@ -3,7 +3,7 @@ use Rattle.order_core.specs.declared.course.Course.{Course}
 use Rattle.order_core.specs.declared.state.HartState.{HartState}
 use Rattle.order_core.specs.Course.{course_of, operation_of}
 use Rattle.order_core.specs.Core.{IsMet}
-use Rattle.order_core.specs.Places.{place}
+use Rattle.order_core.specs.inner.Places.{place}
 use Rattle.order_core.specs.States.{hart_in}
 use Rattle.order_core.proofs.Known.{Known, known}
 use Rattle.std.specs.Vec.{vec_len}
@@ -20,7 +20,7 @@ returns-then-not-is_same-clause-refused g c _ =
     let is : Known k = known k (g.met.P.Plan.lawful plan) in
     let own : HartState = hart_in c.args.state.now.harts c.args.hart in
     let apart : place c.args.at.number c.args.at.op ≡ place own.next.number own.next.op → ⊥ = (λ e. let t : IsTrue c.is_same.result = c.is_same.ensures.1 e in let f = c.if-not-is_same.true in search rules) in
-    not_next (g.P.Plan.planned plan) is c.args.state.now c.requires.fits c.args.hart c.requires.hart c.args.at.number c.args.at.op c.args.op c.requires.from_one c.requires.number c.requires.op c.requires.is_write apart
+    not_next (g.P.Plan.planned plan) is c.args.state.now c.requires.fits c.args.hart c.requires.hart c.args.at.number c.args.at.op c.args.op c.requires.op.from_one c.requires.op.number c.requires.op.op c.requires.is_write apart
 
 pub returns-then-met-at-clause-refused : goal.returns-then-met-at-clause-refused
 returns-then-met-at-clause-refused g c _ =
@@ -37,7 +37,7 @@ index-word-requires g c =
     let k : Course = course_of (g.P.Plan.planned plan) in
     let is : Known k = known k (g.met.P.Plan.lawful plan) in
     let len : vec_len c.args.state.now.words ≡ length c.args.state.now.words.items = c.args.state.now.words.ok.0 in
-    let low : c.args.op.word < length c.args.state.now.words.items = word_inside (g.P.Plan.planned plan) is c.args.state.now c.requires.fits c.args.hart c.requires.hart c.args.at.number c.args.at.op c.args.op c.requires.from_one c.requires.number c.requires.op in
+    let low : c.args.op.word < length c.args.state.now.words.items = word_inside (g.P.Plan.planned plan) is c.args.state.now c.requires.fits c.args.hart c.requires.hart c.args.at.number c.args.at.op c.args.op c.requires.op.from_one c.requires.op.number c.requires.op.op in
     omega arith
 
 pub index_mut-requires : goal.index_mut-requires
@@ -46,7 +46,7 @@ index_mut-requires g c =
     let k : Course = course_of (g.P.Plan.planned plan) in
     let is : Known k = known k (g.met.P.Plan.lawful plan) in
     let len : vec_len c.args.state.now.words ≡ length c.args.state.now.words.items = c.args.state.now.words.ok.0 in
-    let low : c.args.op.word < length c.args.state.now.words.items = word_inside (g.P.Plan.planned plan) is c.args.state.now c.requires.fits c.args.hart c.requires.hart c.args.at.number c.args.at.op c.args.op c.requires.from_one c.requires.number c.requires.op in
+    let low : c.args.op.word < length c.args.state.now.words.items = word_inside (g.P.Plan.planned plan) is c.args.state.now c.requires.fits c.args.hart c.requires.hart c.args.at.number c.args.at.op c.args.op c.requires.op.from_one c.requires.op.number c.requires.op.op in
     omega arith
 
 pub overflow_add-at : goal.overflow_add-at
@@ -54,7 +54,7 @@ overflow_add-at g c =
     let plan = c.args.plan.now in
     let k : Course = course_of (g.P.Plan.planned plan) in
     let is : Known k = known k (g.met.P.Plan.lawful plan) in
-    let low : c.args.at.op < 4294967295 = op_low (g.P.Plan.planned plan) is c.args.state.now c.requires.fits c.args.hart c.requires.hart c.args.at.number c.args.at.op c.args.op c.requires.from_one c.requires.number c.requires.op in
+    let low : c.args.at.op < 4294967295 = op_low (g.P.Plan.planned plan) is c.args.state.now c.requires.fits c.args.hart c.requires.hart c.args.at.number c.args.at.op c.args.op c.requires.op.from_one c.requires.op.number c.requires.op.op in
     search rules
 
 pub returns-clause-fits : goal.returns-clause-fits
@@ -65,8 +65,8 @@ returns-clause-fits g c _ =
     let own : HartState = hart_in c.args.state.now.harts c.args.hart in
     let same : place c.args.at.number c.args.at.op ≡ place own.next.number own.next.op = c.is_same.ensures.0 (let f = c.if-not-is_same.false in search rules) in
     let le : c.args.at.number ≤ c.met_up_to-met.result = omega arith in
-    let low : c.args.at.op < 4294967295 = op_low (g.P.Plan.planned plan) is c.args.state.now c.requires.fits c.args.hart c.requires.hart c.args.at.number c.args.at.op c.args.op c.requires.from_one c.requires.number c.requires.op in
-    let there = found (g.P.Plan.planned plan) is c.args.state.now c.requires.fits c.args.hart c.requires.hart c.args.at.number c.args.at.op c.args.op c.requires.from_one c.requires.number c.requires.op in
+    let low : c.args.at.op < 4294967295 = op_low (g.P.Plan.planned plan) is c.args.state.now c.requires.fits c.args.hart c.requires.hart c.args.at.number c.args.at.op c.args.op c.requires.op.from_one c.requires.op.number c.requires.op.op in
+    let there = found (g.P.Plan.planned plan) is c.args.state.now c.requires.fits c.args.hart c.requires.hart c.args.at.number c.args.at.op c.args.op c.requires.op.from_one c.requires.op.number c.requires.op.op in
     record {
       harts = kept_set k c.args.state.now.harts c.requires.fits.harts c.args.hart (record own { written = own.written + 1; next = c.seek.result; met = c.met_up_to-met.result }) (in_eight (g.P.Plan.planned plan) is c.args.state.now c.requires.fits c.args.hart c.requires.hart)
           (written_kept (g.P.Plan.planned plan) is c.args.hart own (kept (g.P.Plan.planned plan) is c.args.state.now c.requires.fits c.args.hart c.requires.hart) c.args.at.number c.args.at.op c.met_up_to-met.result there.0 (operation_of c.args.hart c.args.at.number c.args.at.op c.args.op) c.seek.result there.1 (refl, refl, refl) c.requires.is_write same (omega arith)
@@ -83,7 +83,7 @@ returns-clause-made g c _ =
     let own : HartState = hart_in c.args.state.now.harts c.args.hart in
     let same : place c.args.at.number c.args.at.op ≡ place own.next.number own.next.op = c.is_same.ensures.0 (let f = c.if-not-is_same.false in search rules) in
     let le : c.args.at.number ≤ c.met_up_to-met.result = omega arith in
-    let low : c.args.op.word < length c.args.state.now.words.items = word_inside (g.P.Plan.planned plan) is c.args.state.now c.requires.fits c.args.hart c.requires.hart c.args.at.number c.args.at.op c.args.op c.requires.from_one c.requires.number c.requires.op in
+    let low : c.args.op.word < length c.args.state.now.words.items = word_inside (g.P.Plan.planned plan) is c.args.state.now c.requires.fits c.args.hart c.requires.hart c.args.at.number c.args.at.op c.args.op c.requires.op.from_one c.requires.op.number c.requires.op.op in
     let word : c.index-word.result.now ≡ slice_index c.args.state.now.words.items c.args.op.word = c.index-word.ensures ∙ any_default c.args.state.now.words.items c.args.op.word c.index-word.result.now 0 low in
-    written (g.P.Plan.planned plan) is c.args.state.now c.requires.fits c.args.hart c.requires.hart c.args.at.number c.args.at.op c.args.op c.requires.from_one c.requires.number c.requires.op c.requires.is_write c.seek.result c.met_up_to-met.result c.put_lanes.result (slice_set c.args.state.now.words.items c.args.op.word c.put_lanes.result) refl
+    written (g.P.Plan.planned plan) is c.args.state.now c.requires.fits c.args.hart c.requires.hart c.args.at.number c.args.at.op c.args.op c.requires.op.from_one c.requires.op.number c.requires.op.op c.requires.is_write c.seek.result c.met_up_to-met.result c.put_lanes.result (slice_set c.args.state.now.words.items c.args.op.word c.put_lanes.result) refl
     (subst (λ (z : ℕ). Lands c.args.op z c.put_lanes.result) word c.put_lanes.ensures) same c.met_up_to-met.ensures.met le

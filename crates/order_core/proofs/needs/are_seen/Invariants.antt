@@ -1,5 +1,5 @@
 use Rattle.std.proofs.Common.{ℕ, ◌<◌, None, slice_index, slice_index_or}
-use Rattle.order_core.specs.Needs.{IsSeen}
+use Rattle.order_core.specs.inner.Needs.{IsSeen}
 use Rattle.order_core.proofs.needs.are_seen.Given as goal
 
 abbrev pub invariant-loop-u : goal.invariant-loop-u

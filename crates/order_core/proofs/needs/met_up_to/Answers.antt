@@ -3,7 +3,7 @@ use mathlib.Core.Logic.{dite}
 use native.Mathlib.Decide.{dec_le}
 use Rattle.order_core.specs.declared.course.Course.{Course}
 use Rattle.order_core.specs.Course.{course_of}
-use Rattle.order_core.specs.Needs.{AreSeen}
+use Rattle.order_core.specs.inner.Needs.{AreSeen}
 use Rattle.order_core.proofs.Known.{Known, known}
 use Rattle.order_core.proofs.NeedLemmas.{met_more, met_less}
 use Rattle.order_core.proofs.needs.met_up_to.Goals as goal

@@ -4,7 +4,8 @@ use native.Mathlib.Decide.{ℕ_discrete}
 use Rattle.order_core.specs.declared.course.Course.{Course}
 use Rattle.order_core.specs.declared.state.HartState.{HartState}
 use Rattle.order_core.specs.Course.{course_of}
-use Rattle.order_core.specs.States.{hart_in, idle, IsKept, IsFresh}
+use Rattle.order_core.specs.States.{hart_in, idle}
+use Rattle.order_core.specs.inner.Kept.{IsKept, IsFresh}
 use Rattle.order_core.proofs.Known.{Known, known}
 use Rattle.order_core.proofs.OpeningLemmas.{starting, starts_fresh, starts_kept}
 use Rattle.order_core.proofs.StateLemmas.{set_here, set_else, same_length}

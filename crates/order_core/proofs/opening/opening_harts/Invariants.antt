@@ -1,6 +1,7 @@
 use Rattle.std.proofs.Common.{◌≡◌, ℕ, ◌<◌, length}
 use Rattle.order_core.specs.Course.{course_of}
-use Rattle.order_core.specs.States.{hart_in, IsKept, IsFresh}
+use Rattle.order_core.specs.States.{hart_in}
+use Rattle.order_core.specs.inner.Kept.{IsKept, IsFresh}
 use Rattle.order_core.proofs.opening.opening_harts.Given as goal
 
 abbrev pub invariant-loop-hart : goal.invariant-loop-hart

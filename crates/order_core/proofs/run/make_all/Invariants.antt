@@ -1,7 +1,8 @@
 use Rattle.std.proofs.Common.{take}
 use Rattle.order_core.specs.Course.{course_of}
 use Rattle.order_core.specs.Runs.{IsReached}
-use Rattle.order_core.specs.States.{core_of, Fits}
+use Rattle.order_core.specs.States.{core_of}
+use Rattle.order_core.specs.inner.Kept.{Fits}
 use Rattle.order_core.proofs.run.make_all.Given as goal
 
 abbrev pub invariant-loop-at : goal.invariant-loop-at

@@ -2,7 +2,7 @@ use Rattle.std.proofs.Common.{rules, ◌+◌, ◌<◌, ◌≤◌, IsTrue, length
 use Rattle.pl_event.proofs.Places.{before_most}
 use Rattle.order_core.specs.declared.course.Course.{Course}
 use Rattle.order_core.specs.Course.{course_of, length_of}
-use Rattle.order_core.specs.Places.{place}
+use Rattle.order_core.specs.inner.Places.{place}
 use Rattle.order_core.proofs.Known.{Known, known}
 use Rattle.order_core.proofs.Walks.{op_short, further, clash_here, no_clash}
 use Rattle.order_core.proofs.seek.has_clash.Goals as goal

@@ -1,6 +1,6 @@
 use Rattle.std.proofs.Common.{◌-◌, ◌≤◌}
 use Rattle.order_core.specs.Course.{course_of}
-use Rattle.order_core.specs.Places.{place, ClashesBetween}
+use Rattle.order_core.specs.inner.Places.{place, ClashesBetween}
 use Rattle.order_core.proofs.seek.has_clash.Given as goal
 
 abbrev pub invariant-loop-to : goal.invariant-loop-to

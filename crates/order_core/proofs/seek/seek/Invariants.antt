@@ -1,7 +1,7 @@
 use Rattle.std.proofs.Common.{◌≡◌, ◌+◌, ◌-◌, ◌≤◌}
 use Rattle.order_core.specs.Course.{course_of, length_of}
 use Rattle.order_core.specs.Counts.{writes_before}
-use Rattle.order_core.specs.Places.{place}
+use Rattle.order_core.specs.inner.Places.{place}
 use Rattle.order_core.proofs.seek.seek.Given as goal
 
 abbrev pub invariant-loop-at : goal.invariant-loop-at

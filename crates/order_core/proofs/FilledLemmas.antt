@@ -1,5 +1,5 @@
 -- The operations of a filled plan in executed order are filled from the words as they are.
-use Rattle.std.proofs.Common.{◌≡◌, ℕ, zero, suc, ◌+◌, ◌<◌, ◌≤◌, List, [], ◌∷◌, ◌++◌, length, slice_index, refl, sym, ap, ◌∙◌, subst, arith}
+use Rattle.std.proofs.Common.{◌≡◌, ℕ, zero, suc, ◌+◌, ◌<◌, List, [], ◌∷◌, ◌++◌, length, slice_index, refl, sym, ap, ◌∙◌, subst, arith}
 use mathlib.Core.Option.{some}
 use lib.ListN.{get_elem?}
 use Rattle.pl_event.specs.declared.log.Line.{Line}
@@ -12,7 +12,7 @@ use Rattle.order_core.specs.declared.course.Operation.{Operation}
 use Rattle.order_core.specs.Lanes.{lane}
 use Rattle.order_core.specs.Course.{Planned, course_of, operations_from, tagged, last_lane}
 use Rattle.order_core.specs.Lawful.{HasValues}
-use Rattle.order_core.specs.Shapes.{Shape, fill, after_shapes, AreFilled}
+use Rattle.order_core.specs.Shapes.{Shape, fill, AreFilled}
 use Rattle.order_core.specs.Filled.{words_after, operations_at, AllFit, filled_plan}
 use Rattle.order_core.proofs.Values.{filled_tagged, values_hold, after_operations, left_end, after_filled}
 

@@ -11,7 +11,6 @@ use Rattle.order_core.specs.declared.state.HartState.{HartState}
 use Rattle.order_core.specs.Course.{Planned, At, course_of, length_of, operation_of, rank}
 use Rattle.order_core.specs.Core.{IsMet, IsPassed, IsCursor, MayWrite, MayRead}
 use Rattle.order_core.specs.Counts.{writes_before}
-use Rattle.order_core.specs.Lanes.{covers, Meets}
 use Rattle.order_core.specs.Lawful.{IsName}
 use Rattle.order_core.specs.inner.Places.{place, operation_place, ClashesBetween}
 use Rattle.order_core.specs.inner.Kept.{IsKept}

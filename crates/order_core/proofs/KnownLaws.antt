@@ -1,5 +1,5 @@
 -- The laws of the core, at a plan that is known to be lawful.
-use Rattle.std.proofs.Common.{◌≡◌, ◌≢◌, ℕ, ◌<◌, ◌≤◌, ◌⊎◌, List, length, take, subst, sym, inl, inr}
+use Rattle.std.proofs.Common.{◌≡◌, ◌≢◌, ℕ, ◌≤◌, ◌⊎◌, List, take, inl, inr}
 use Rattle.std.proofs.Math.Logic.{∥∥₁_elim}
 use denote.Struct.Props.{props}
 use mathlib.Core.Logic.{dite}
@@ -10,7 +10,7 @@ use Rattle.order_core.specs.declared.steps.Act.{Act}
 use Rattle.order_core.specs.declared.steps.CoreStep.{CoreStep}
 use Rattle.order_core.specs.Lanes.{Lands}
 use Rattle.order_core.specs.Lawful.{IsLawful, IsTable}
-use Rattle.order_core.specs.Core.{Core, IsPassed, IsConsistent, IsOpen, IsNextWrite, IsFinished, opening_core, after_write, after_advertise, after_see}
+use Rattle.order_core.specs.Core.{Core, IsPassed, IsConsistent, IsNextWrite, IsFinished, opening_core, after_write, after_advertise, after_see}
 use Rattle.order_core.specs.Runs.{IsReached, Makes, LeavesRead, StaysOpen}
 use Rattle.order_core.specs.Freed.{HasEnded, after_free}
 use Rattle.order_core.specs.Outcomes.{ReadsFindValues, WritesFindLanes, ReadsStayOpen, ReadsAreSequential, HasLastWords, HasMove, HasFewMoves}

@@ -1,7 +1,6 @@
 -- What is kept at the start.
 use Rattle.std.proofs.Common.{◌≡◌, ℕ, zero, suc, ◌+◌, ◌≤◌, true, List, [], ◌∷◌, slice_index, refl, sym, ◌∙◌, arith}
 use Rattle.order_core.specs.declared.course.Course.{Course}
-use Rattle.order_core.specs.declared.course.Op.{Op}
 use Rattle.order_core.specs.declared.course.Operation.{Operation}
 use Rattle.order_core.specs.declared.place.Place.{Place}
 use Rattle.order_core.specs.declared.state.HartState.{HartState}

@@ -1,5 +1,5 @@
 -- A plan that has the laws that are left to be shown is lawful.
-use Rattle.std.proofs.Common.{◌≡◌, ℕ, suc, ◌+◌, ◌<◌, ◌≤◌, ◌⊎◌, List, [], ◌∷◌, length, Some, slice_get, refl, sym, ap, ◌∙◌, subst, ⊎_elim, arith}
+use Rattle.std.proofs.Common.{◌≡◌, ℕ, suc, ◌+◌, ◌<◌, ◌≤◌, List, [], ◌∷◌, length, refl, sym, ap, ◌∙◌, subst, ⊎_elim, arith}
 use mathlib.Core.Option.{some, some-ne-none}
 use lib.ListN.{get_elem?}
 use Rattle.pl_event.specs.declared.log.Line.{Line}
@@ -8,7 +8,7 @@ use Rattle.pl_event.specs.Records.{records_before}
 use Rattle.pl_event.proofs.Places as places
 use Rattle.order_core.specs.declared.course.Op.{Op}
 use Rattle.order_core.specs.declared.course.Operation.{Operation}
-use Rattle.order_core.specs.Course.{Planned, IsListed, At, operation_of, operations_from, course_of, length_of, tagged}
+use Rattle.order_core.specs.Course.{Planned, IsListed, At, operations_from, course_of, length_of, tagged}
 use Rattle.order_core.specs.Lawful.{IsInside, IsLawful, IsLawfulPlan, IsSoundOp}
 use Rattle.order_core.proofs.Flatten.{at_append, tag_of, course_in_order}
 use Rattle.order_core.proofs.Named.{op_of}

@@ -1,12 +1,11 @@
 -- What a hart that has come to an operation may do.
-use Rattle.std.proofs.Common.{◌≡◌, ℕ, ◌+◌, ◌<◌, ◌≤◌, true, false, refl, sym, ap, ◌∙◌, subst, arith}
+use Rattle.std.proofs.Common.{◌≡◌, ℕ, ◌+◌, ◌<◌, true, false, refl, sym, ap, ◌∙◌, arith}
 use Rattle.order_core.specs.declared.course.Course.{Course}
 use Rattle.order_core.specs.declared.course.Op.{Op}
 use Rattle.order_core.specs.declared.course.Operation.{Operation}
 use Rattle.order_core.specs.Lanes.{Meets}
 use Rattle.order_core.specs.Course.{Planned, At, course_of, operation_of, rank}
-use Rattle.order_core.specs.Core.{Core, IsMet, IsOpen, IsNextWrite, IsPassed, opening_core, put, after_write}
-use Rattle.order_core.specs.inner.Places.{place, operation_place}
+use Rattle.order_core.specs.Core.{Core, IsMet, IsOpen, IsNextWrite, IsPassed, opening_core, after_write}
 use Rattle.order_core.specs.Counts.{writes_before}
 use Rattle.order_core.specs.Turns.{IsAt, HasTurn, IsAtEnd}
 use Rattle.order_core.proofs.Counts.{rank_by_name, next_write, next_read, no_more, next_record, first_record}

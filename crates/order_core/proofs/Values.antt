@@ -6,7 +6,7 @@ use Rattle.order_core.specs.declared.course.Operation.{Operation}
 use Rattle.order_core.specs.Lanes.{lane, covers}
 use Rattle.order_core.specs.Course.{left_in, before, tagged}
 use Rattle.order_core.specs.Core.{put}
-use Rattle.order_core.specs.Shapes.{Shape, filled_op, fill, after_shape, after_shapes, IsFitting, AreFitting, IsFilled, after_operation, AreFilled}
+use Rattle.order_core.specs.Shapes.{Shape, fill, after_shape, after_shapes, IsFitting, AreFitting, IsFilled, after_operation, AreFilled}
 use Rattle.order_core.proofs.Ranks.{eqb_is, left_none, put_here, put_else}
 
 -- the lane of a word after an operation

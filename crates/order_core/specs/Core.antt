@@ -1,5 +1,7 @@
 -- How far the harts of a run are, and what they may do next.
 use Rattle.std.specs.Prelude.{◌≡◌, ◌≢◌, ℕ, ◌+◌, ◌-◌, ◌<◌, ◌≤◌, Bool, true, false, nat_lt, ◌==◌, length, slice_index, if◌then◌else◌}
+use Rattle.pl_base.specs.declared.layout.TheConstants.{LANES}
+use Rattle.order_core.specs.declared.course.TheConstants.{FIRST_WORD}
 use Rattle.pl_event.specs.Needs.{IsNeed}
 use Rattle.order_core.specs.declared.course.Course.{Course}
 use Rattle.order_core.specs.declared.course.Operation.{Operation}
@@ -68,7 +70,7 @@ module _ (c : Course) where
         → Meets a.what b.what → IsDone k.written p a → IsDone k.written q b
     pub reads : (p q : ℕ) (a b : Operation) → At c p a → At c q b → q < p → a.what.write ≡ true → b.what.write ≡ false
         → Meets a.what b.what → a.hart ≢ b.hart → IsDone k.written p a → b.number ≤ k.progress b.hart
-    pub words : (w j : ℕ) → 9 ≤ w → w < length c.opening → j < 4 → lane j (k.word w) ≡ left_by c (done_by k.written) w j
+    pub words : (w j : ℕ) → FIRST_WORD ≤ w → w < length c.opening → j < LANES → lane j (k.word w) ≡ left_by c (done_by k.written) w j
 
   -- each progress word is at most the cursor, nothing above a progress word was seen, and the needs of each performed
   -- write's record are met
@@ -102,4 +104,4 @@ after_see k h u = record k { seen = put k.seen h (put (k.seen h) u (k.progress u
 
 -- word i of the table other than word 0: words 1 to 8 are the progress words of harts 0 to 7
 abbrev pub table_word : Core → ℕ → ℕ
-table_word k i = if nat_lt i 9 then k.progress (i - 1) else k.word i
+table_word k i = if nat_lt i FIRST_WORD then k.progress (i - 1) else k.word i

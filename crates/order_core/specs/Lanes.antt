@@ -1,5 +1,6 @@
 -- The four lanes of a word.
 use Rattle.std.specs.Prelude.{◌≡◌, ℕ, ◌*◌, ◌/◌, ◌%◌, ◌^◌, ◌<◌, Bool, true, false, ◌==◌}
+use Rattle.pl_base.specs.declared.layout.TheConstants.{LANES}
 use Rattle.order_core.specs.declared.course.Op.{Op}
 
 -- lane j of a word: 16 bits
@@ -16,9 +17,9 @@ Meets a b = (a.word ≡ b.word) × (j : ℕ) × (covers a.lanes j ≡ true) × (
 
 -- the word x holds the operation's value in its lanes
 abbrev pub HasValueOf : Op → ℕ → Type 0
-HasValueOf o x = (j : ℕ) → j < 4 → covers o.lanes j ≡ true → lane j x ≡ lane j o.value
+HasValueOf o x = (j : ℕ) → j < LANES → covers o.lanes j ≡ true → lane j x ≡ lane j o.value
 
 -- n is the word x with the value of o in its lanes
 abbrev pub Lands : Op → ℕ → ℕ → Type 0
-Lands o x n = (j : ℕ) → j < 4
+Lands o x n = (j : ℕ) → j < LANES
     → (covers o.lanes j ≡ true → lane j n ≡ lane j o.value) × (covers o.lanes j ≡ false → lane j n ≡ lane j x)

@@ -1,5 +1,7 @@
 -- What a plan keeps.
 use Rattle.std.specs.Prelude.{◌≡◌, ◌≢◌, ℕ, ◌^◌, ◌<◌, ◌≤◌, ◌⊎◌, true, false, List, length, slice_index}
+use Rattle.pl_base.specs.declared.layout.TheConstants.{LANES}
+use Rattle.order_core.specs.declared.course.TheConstants.{FIRST_WORD}
 use Rattle.pl_event.specs.Graph.{Path}
 use Rattle.pl_event.specs.Edges.{Into}
 use Rattle.pl_event.specs.Conflicts.{IsOrdered}
@@ -16,7 +18,7 @@ IsName h n i a = (a.hart ≡ h) × (a.number ≡ n) × (a.op ≡ i)
 
 -- the operation is on a word from 9 on of so many, and names one to four lanes
 pub record IsSoundOp (words : ℕ) (o : Op) : Type 0 where
-  pub low : 9 ≤ o.word
+  pub low : FIRST_WORD ≤ o.word
   pub high : o.word < words
   pub lanes : (1 ≤ o.lanes) × (o.lanes ≤ 15)
 
@@ -37,7 +39,7 @@ pub record InOrder (c : Course) : Type 0 where
 
 -- each read's value is, in its lanes, what the operations before it leave there
 abbrev pub HasValues : Course → Type 0
-HasValues c = (p : ℕ) (a : Operation) → At c p a → a.what.write ≡ false → (j : ℕ) → j < 4 → covers a.what.lanes j ≡ true
+HasValues c = (p : ℕ) (a : Operation) → At c p a → a.what.write ≡ false → (j : ℕ) → j < LANES → covers a.what.lanes j ≡ true
     → lane j a.what.value ≡ lane_before c p a.what.word j
 
 -- a path leads from the earlier to the later of two clashing operations of different harts
@@ -47,8 +49,8 @@ HasPaths c = (p q : ℕ) (a b : Operation) → At c p a → At c q b → p < q �
 
 -- the number of words is from 9 to 2^32 - 1, and words 0 to 8 are 0
 pub record IsTable (opening : List ℕ) : Type 0 where
-  pub size : (9 ≤ length opening) × (length opening < 2 ^ 32)
-  pub zeros : (w : ℕ) → w < 9 → slice_index opening w ≡ 0
+  pub size : (FIRST_WORD ≤ length opening) × (length opening < 2 ^ 32)
+  pub zeros : (w : ℕ) → w < FIRST_WORD → slice_index opening w ≡ 0
 
 -- the laws on the log, on the table, on the operations, on values and on paths
 pub record IsLawful (c : Course) : Type 0 where

@@ -1,5 +1,7 @@
 -- What holds of states, and what a list of steps comes to.
 use Rattle.std.specs.Prelude.{◌≡◌, ◌≢◌, ◌⊎◌, ℕ, ◌<◌, ◌≤◌, true, List, length, take, Some, slice_get}
+use Rattle.pl_base.specs.declared.layout.TheConstants.{LANES}
+use Rattle.order_core.specs.declared.course.TheConstants.{FIRST_WORD}
 use Rattle.order_core.specs.declared.course.Course.{Course}
 use Rattle.order_core.specs.declared.course.Operation.{Operation}
 use Rattle.order_core.specs.declared.steps.Act.TheVariants.{Perform}
@@ -9,7 +11,7 @@ use Rattle.order_core.specs.declared.refused.CoreRefused.TheVariants.{NotAble, N
 use Rattle.order_core.specs.declared.state.CoreState.{CoreState}
 use Rattle.order_core.specs.Lanes.{lane, covers, HasValueOf}
 use Rattle.order_core.specs.Course.{lane_before, last_lane}
-use Rattle.order_core.specs.Core.{Core, IsCursor, IsOpen, IsNextWrite, IsFinished}
+use Rattle.order_core.specs.Core.{Core, IsCursor, IsOpen, IsNextWrite}
 use Rattle.order_core.specs.Runs.{IsReached, IsAllowed, Makes, MovesAlong, LeavesRead, StaysOpen, most_moves}
 use Rattle.order_core.specs.States.{core_of, cursor_of}
 
@@ -20,7 +22,7 @@ module _ (c : Course) where
 
   -- each next write finds in its lanes what the sequential run has there before it
   abbrev pub WritesFindLanes : Core → Type 0
-  WritesFindLanes k = (h p : ℕ) (a : Operation) → IsNextWrite c k h p a → (j : ℕ) → j < 4 → covers a.what.lanes j ≡ true
+  WritesFindLanes k = (h p : ℕ) (a : Operation) → IsNextWrite c k h p a → (j : ℕ) → j < LANES → covers a.what.lanes j ≡ true
       → lane j (k.word a.what.word) ≡ lane_before c p a.what.word j
 
   -- each read that is open stays open, with the same in its lanes, after each allowed step that is another hart's, or
@@ -31,7 +33,7 @@ module _ (c : Course) where
 
   -- the words of the table are those at the end of the sequential run
   abbrev pub HasLastWords : Core → Type 0
-  HasLastWords k = (w j : ℕ) → 9 ≤ w → w < length c.opening → j < 4 → lane j (k.word w) ≡ last_lane c w j
+  HasLastWords k = (w j : ℕ) → FIRST_WORD ≤ w → w < length c.opening → j < LANES → lane j (k.word w) ≡ last_lane c w j
 
   -- some hart may make a step that changes the state
   abbrev pub HasMove : Core → Type 0

@@ -1,5 +1,6 @@
 -- The steps of harts, and whole runs of them.
 use Rattle.std.specs.Prelude.{◌≡◌, ◌≢◌, ℕ, zero, suc, ◌+◌, ◌<◌, ◌≤◌, ◌==◌, ◌⊎◌, true, List, [], ◌∷◌, if◌then◌else◌}
+use Rattle.pl_base.specs.declared.layout.TheConstants.{LANES}
 use Rattle.order_core.specs.declared.course.Course.{Course}
 use Rattle.order_core.specs.declared.course.Operation.{Operation}
 use Rattle.order_core.specs.declared.steps.Act.{Act}
@@ -60,7 +61,7 @@ module _ (c : Course) where
   -- the read stays open, and finds the same in its lanes
   abbrev pub StaysOpen : ℕ → ℕ → Operation → Core → Core → Type 0
   StaysOpen h p a k k' = IsOpen c k' h p a
-      × ((j : ℕ) → j < 4 → covers a.what.lanes j ≡ true → lane j (k'.word a.what.word) ≡ lane j (k.word a.what.word))
+      × ((j : ℕ) → j < LANES → covers a.what.lanes j ≡ true → lane j (k'.word a.what.word) ≡ lane j (k.word a.what.word))
 
 -- f 0 + .. + f (n - 1)
 abbrev pub total : ℕ → (ℕ → ℕ) → ℕ

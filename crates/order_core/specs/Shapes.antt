@@ -1,5 +1,6 @@
 -- Operations whose values come from the words as they are.
 use Rattle.std.specs.Prelude.{◌≡◌, ℕ, ◌<◌, Bool, true, false, List, [], ◌∷◌, if◌then◌else◌}
+use Rattle.pl_base.specs.declared.layout.TheConstants.{LANES}
 use Rattle.order_core.specs.declared.course.Op.{Op}
 use Rattle.order_core.specs.declared.course.Operation.{Operation}
 use Rattle.order_core.specs.Lanes.{lane, covers}
@@ -37,7 +38,7 @@ after_shapes w (s ∷ ss) = after_shapes (after_shape w s) ss
 
 -- a write leaves the lanes that it does not name
 abbrev pub IsFitting : Shape → Type 0
-IsFitting s = s.write ≡ true → (x j : ℕ) → j < 4 → covers s.lanes j ≡ false → lane j (s.change x) ≡ lane j x
+IsFitting s = s.write ≡ true → (x j : ℕ) → j < LANES → covers s.lanes j ≡ false → lane j (s.change x) ≡ lane j x
 
 abbrev pub AreFitting : List Shape → Type 0
 AreFitting [] = Unit {0}
@@ -46,7 +47,7 @@ AreFitting (s ∷ ss) = IsFitting s × AreFitting ss
 -- a read finds its word as it is, and a write leaves the lanes that it does not name
 abbrev pub IsFilled : (ℕ → ℕ) → Operation → Type 0
 IsFilled w a = (a.what.write ≡ false → a.what.value ≡ w a.what.word)
-    × (a.what.write ≡ true → (j : ℕ) → j < 4 → covers a.what.lanes j ≡ false
+    × (a.what.write ≡ true → (j : ℕ) → j < LANES → covers a.what.lanes j ≡ false
     → lane j a.what.value ≡ lane j (w a.what.word))
 
 abbrev pub after_operation : (ℕ → ℕ) → Operation → (ℕ → ℕ)

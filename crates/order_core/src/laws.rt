@@ -1,5 +1,6 @@
 //! What holds of the core's states, whatever the plan and the order of the steps.
 ghost use Rattle.std.specs.Prelude.{◌≡◌, ℕ, ◌+◌, ◌<◌, ◌≤◌, true, false, List, length};
+ghost use Rattle.pl_base.specs.declared.layout.TheConstants.{LANES};
 ghost use Rattle.pl_event.specs.declared.log.Log.{Log};
 ghost use Rattle.pl_event.specs.Needs.{IsNeed};
 ghost use Rattle.order_core.specs.declared.course.Course.{Course};
@@ -101,7 +102,7 @@ pub fn filled_values()
     ensures values { (shapes : ℕ → (ℕ → ℕ) → List Shape) (log : Log) (opening : List ℕ) →
         AllFit shapes opening (length log.lines) → HasValues (course_of (filled_plan shapes log opening)) }
     ensures last { (shapes : ℕ → (ℕ → ℕ) → List Shape) (log : Log) (opening : List ℕ) →
-        AllFit shapes opening (length log.lines) → (w j : ℕ) → j < 4 →
+        AllFit shapes opening (length log.lines) → (w j : ℕ) → j < LANES →
         last_lane (course_of (filled_plan shapes log opening)) w j ≡
         lane j (words_after shapes opening (length log.lines) w) }
 {}

@@ -31,7 +31,7 @@ mod steps;
 #[cfg(test)]
 mod tests;
 
-pub use course::{Course, Op, Operation};
+pub use course::{Course, FIRST_WORD, Op, Operation};
 pub use laws::{
     core_is_sequential, filled_values, freed_harts, never_stuck, open_reads, operations_in_turn,
     plan_is_lawful, waiting_harts,

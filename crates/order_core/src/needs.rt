@@ -5,6 +5,7 @@ ghost use Rattle.order_core.specs.Core.{IsMet};
 ghost use Rattle.order_core.specs.inner.Needs.{IsSeen, AreSeen};
 
 use crate::plan::PlanOps;
+use pl_base::layout::MAX_HARTS;
 use pl_event::Arcs;
 
 // Whether the need is not above what was seen.
@@ -21,7 +22,7 @@ fn is_seen(need: Option<u32>, seen: u32) -> bool
 fn are_seen(needs: Arcs, seen: &[u32; 8]) -> bool
     ensures { IsTrue result ↔ AreSeen needs seen.now }
 {
-    for u in 0..8 {
+    for u in 0..MAX_HARTS {
         if !is_seen(needs.get(u), seen[u as usize]) {
             return false;
         }

@@ -3,6 +3,7 @@ ghost use Rattle.std.specs.Prelude.{◌≡◌, ◌<◌, ◌≤◌};
 ghost use Rattle.order_core.specs.Core.{table_word};
 ghost use Rattle.order_core.specs.States.{core_of, cursor_of, word_count};
 
+use crate::course::FIRST_WORD;
 use crate::place::Place;
 
 /// How far a hart is.
@@ -66,7 +67,7 @@ impl CoreState {
         requires inside { i < word_count self.now }
         ensures { result ≡ table_word (core_of self.now) i }
     {
-        if i < 9 {
+        if i < FIRST_WORD {
             return self.harts[(i - 1) as usize].progress as u64;
         }
         self.words[i as usize]

@@ -1,5 +1,6 @@
 -- What is kept of the harts of a run, and what a step does to it.
 use Rattle.std.specs.Prelude.{◌≡◌, ℕ, ◌<◌, ◌≤◌, List, length, slice_index}
+use Rattle.pl_base.specs.declared.layout.TheConstants.{MAX_HARTS}
 use Rattle.order_core.specs.declared.course.Course.{Course}
 use Rattle.order_core.specs.declared.state.HartState.{HartState}
 use Rattle.order_core.specs.declared.state.CoreState.{CoreState}
@@ -13,7 +14,7 @@ use Rattle.order_core.specs.inner.Places.{place_of, end_of, HasWriteAt}
 
 -- what is kept of a hart: the needs of its first records were seen, and its performed writes are those before the next
 pub record IsKept (c : Course) (h : ℕ) (s : HartState) : Type 0 where
-  pub eight : length s.seen ≡ 8
+  pub eight : length s.seen ≡ MAX_HARTS
   pub met_low : s.met ≤ length_of c h
   pub met : IsMet c (slice_index s.seen) h s.met
   pub from_one : 1 ≤ s.next.number
@@ -23,7 +24,7 @@ pub record IsKept (c : Course) (h : ℕ) (s : HartState) : Type 0 where
 
 -- what is kept of the harts: nothing above a progress word was seen
 pub record AreKept (c : Course) (harts : List HartState) : Type 0 where
-  pub eight : length harts ≡ 8
+  pub eight : length harts ≡ MAX_HARTS
   pub each : (h : ℕ) → h < c.log.harts → IsKept c h (hart_in harts h)
   pub seen : (h u : ℕ) → slice_index (hart_in harts h).seen u ≤ (hart_in harts u).progress
 

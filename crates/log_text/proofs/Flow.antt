@@ -17,70 +17,14 @@ use Rattle.pl_event.specs.declared.log.PageRun.{PageRun}
 use Rattle.pl_event.specs.declared.log.Point.{Point}
 use Rattle.pl_event.specs.declared.log.Record.{Record}
 use Rattle.pl_event.specs.declared.log.Record.TheVariants as entry
-use Rattle.pl_event.proofs.Before.{drop_here}
-use Rattle.pl_event.proofs.Places.{standing_of, standing_next}
+use Rattle.pl_event.proofs.Places.{line_number_of, line_number_next}
 use Rattle.log_text.specs.declared.cause.LogCause.TheVariants.{Page}
 use Rattle.log_text.specs.Form.{IsPointInForm, most_written}
 use Rattle.log_text.specs.Spelling.{Entry, page, row, row_of, points_from, entries_of}
 use Rattle.log_text.specs.WellFormed.{IsWritable, Continues, breaks, breaks_hart, breaks_arc, breaks_notice, names_past, is_bad_notice, is_waiting, is_pending, is_row_of, records_in, rules_of_any_length}
+use Rattle.log_text.proofs.ArcPoints.{arc_holds, none_passes}
+use Rattle.log_text.proofs.LinesBefore.{front_of, parted, records_at, fails_before}
 use Rattle.log_text.proofs.RuleLemmas.{find-None, fails_at}
-
--- Lines before a line
-
-abbrev front_of : Log → ℕ → List Entry
-front_of log i = map page log.pages ++ map row_of (take i log.lines)
-
-parted : (log : Log) (i : ℕ) (line : Line) → get_elem? log.lines i ≡ some line → entries_of log ≡ front_of log i ++ row_of line ∷ map row_of (drop (suc i) log.lines)
-parted log i line at =
-    let split : log.lines ≡ take i log.lines ++ line ∷ drop (suc i) log.lines =
-    sym (take-append-drop i log.lines) ∙ ap (λ (ls : List Line). take i log.lines ++ ls) (drop_here log.lines i line at) in
-    ap (λ (ls : List Line). map page log.pages ++ map row_of ls) split
-    ∙ ap (λ (es : List Entry). map page log.pages ++ es) (map-append row_of (take i log.lines) (line ∷ drop (suc i) log.lines))
-    ∙ sym (append_assoc (map page log.pages) (map row_of (take i log.lines)) (row_of line ∷ map row_of (drop (suc i) log.lines)))
-
-no_rows : (hart : ℕ) (pages : List PageRun) → count_by (is_row_of hart) (map page pages) ≡ 0
-no_rows hart [] = refl
-no_rows hart (run ∷ pages) = no_rows hart pages
-
-rows_before : (hart : ℕ) (lines : List Line) (i : ℕ) → count_by (is_row_of hart) (map row_of (take i lines)) ≡ records_before hart lines i
-rows_before hart [] zero = refl
-rows_before hart [] (suc i) = refl
-rows_before hart (line ∷ lines) zero = refl
-rows_before hart (line ∷ lines) (suc i) =
-    sum_by-cons (λ e. cond (is_row_of hart e) 1 0) (row_of line) (map row_of (take i lines))
-    ∙ ap (λ (n : ℕ). cond (eqb (hart_of line.what) hart) 1 0 + n) (rows_before hart lines i)
-
-records_at : (log : Log) (hart i : ℕ) → records_in hart (front_of log i) ≡ records_before hart log.lines i
-records_at log hart i = omega (arith, sum_by-append (λ e. cond (is_row_of hart e) 1 0) (map page log.pages) (map row_of (take i log.lines)), no_rows hart log.pages, rows_before hart log.lines i)
-
-fails_before : (p : Entry → Bool) (lines : List Line) (i k : ℕ) (line : Line) → list_any p (map row_of (take i lines)) ≡ false → get_elem? lines k ≡ some line → k < i → p (row_of line) ≡ false
-fails_before p [] i k line none at before = absurd cc
-fails_before p (l ∷ lines) zero k line none at before = absurd (omega arith)
-fails_before p (l ∷ lines) (suc i) zero line none at before =
-    let same : l ≡ line = cc in
-    subst (λ (x : Line). p (row_of x) ≡ false) same (or_parts (p (row_of l)) (list_any p (map row_of (take i lines))) none).0
-fails_before p (l ∷ lines) (suc i) (suc k) line none at before =
-    fails_before p lines i k line (or_parts (p (row_of l)) (list_any p (map row_of (take i lines))) none).1 at (omega arith)
-
--- The arcs of a line
-
-none_passes : (test : Point → Bool) (points : List Point) → list_any test points ≡ false → AllByRecursion (λ point. test point ≡ false) points
-none_passes test [] none = tt
-none_passes test (point ∷ points) none =
-    let parts = or_parts (test point) (list_any test points) none in
-    (parts.0, none_passes test points parts.1)
-
-arc_holds : (P : Point → Type 0) (numbers : List (Option ℕ)) (base u n : ℕ) → get_or numbers u None ≡ Some n → AllByRecursion P (points_from base numbers) → P (record { hart = base + u; number = n })
-arc_holds P [] base u n is all = absurd cc
-arc_holds P (None ∷ numbers) base zero n is all = absurd cc
-arc_holds P (None ∷ numbers) base (suc u) n is all =
-    subst (λ (h : ℕ). P (record { hart = h; number = n })) (omega arith) (arc_holds P numbers (suc base) u n is all)
-arc_holds P (Some k ∷ numbers) base zero n is all =
-    let same : k ≡ n = cc in
-    let at : base ≡ base + 0 = omega arith in
-    subst (λ (m : ℕ). P (record { hart = base + 0; number = m })) same (subst (λ (h : ℕ). P (record { hart = h; number = k })) at all.0)
-arc_holds P (Some k ∷ numbers) base (suc u) n is all =
-    subst (λ (h : ℕ). P (record { hart = h; number = n })) (omega arith) (arc_holds P numbers (suc base) u n is all.1)
 
 -- What the rules give of a line
 
@@ -137,7 +81,7 @@ told_later harts before h u n points keeps =
     let bad = or_parts (eqb u h) (leb n (records_in u before)) keeps.told in
     (leb-false harts u (or_parts (leb harts h) (leb harts u) keeps.within).1, eqb-false u h bad.0, leb-false n (records_in u before) bad.1)
 
--- a notice that stands before and that waits for nothing has its event before
+-- a notice that waits for nothing has its event before
 has_come : (before : List Entry) (h u n : ℕ) (points : List Point) → (is_pending before (row (notice_of h u n) points) && eqb h h) ≡ false → n ≤ records_in u before
 has_come before h u n points fails = ltb-false (records_in u before) n (both_fail (ltb (records_in u before) n) (eqb h h) (eq-eqb h h refl) fails)
 
@@ -146,8 +90,7 @@ flows log writable = record {
   within = λ i h m line is. subst (λ (x : ℕ). x < log.harts) is.hart (hart_within log.harts line.what (line_keeps log writable i line is.at).within);
   arcs = λ i h m line is u n arc.
       let keeps = line_keeps log writable i line is.at in
-      let here : 0 + u ≡ u = omega arith in
-      let holds = λ (P : Point → Type 0) (all : AllByRecursion P (points_from 0 line.arcs)). subst (λ (x : ℕ). P (record { hart = x; number = n })) here (arc_holds P line.arcs 0 u n arc all) in (
+      let holds = λ (P : Point → Type 0) (all : AllByRecursion P (points_from 0 line.arcs)). arc_holds P line.arcs u n arc all in (
         leb-false log.harts u (holds (λ (point : Point). leb log.harts point.hart ≡ false) keeps.named),
         eqb-false u h (rw (← is.hart) (holds (λ (point : Point). eqb point.hart (hart_of line.what) ≡ false) keeps.others)),
         (holds (IsPointInForm most_written) keeps.form).1,
@@ -162,11 +105,10 @@ flows log writable = record {
       let k = notice.0 in
       let of = notice.1 in
       let there = notice.2 in
-      let before : k < i = omega (arith, standing_of log.lines k h m of there, standing_of log.lines i h (m + 1) line is, standing_next log.lines h m) in
+      let before : k < i = omega (arith, line_number_of log.lines k h m of there, line_number_of log.lines i h (m + 1) line is, line_number_next log.lines h m) in
       let waits = λ (e : Entry). is_pending (front_of log i) e && is_row_of h e in
       let settled : list_any waits (front_of log i) ≡ false = rw (← is.hart) keeps.settled in
-      let none = (or_parts (list_any waits (map page log.pages)) (list_any waits (map row_of (take i log.lines))) (sym (list_any-append waits (map page log.pages) (map row_of (take i log.lines))) ∙ settled)).1 in
-      let free = fails_before waits log.lines i k of none there.at before in
+      let free = fails_before waits log i k of settled there.at before in
       let shown : waits (row (notice_of h u n) (points_from 0 of.arcs)) ≡ false = subst (λ (what : Record). waits (row what (points_from 0 of.arcs)) ≡ false) notice.3 free in
       subst (λ (r : ℕ). n ≤ r) (records_at log u i) (has_come (front_of log i) h u n (points_from 0 of.arcs) shown);
 }

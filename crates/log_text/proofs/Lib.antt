@@ -12,10 +12,16 @@ mod Widths
 pub mod AddedLines
 pub mod ArcLemmas
 pub mod ArcRules
+pub mod ArcPoints
 pub mod Flow
+pub mod LinesBefore
+pub mod MappedLines
 pub mod PageLemmas
+pub mod RowRules
 pub mod RuleLemmas
+pub mod RunOfText
 pub mod TallyLemmas
+pub mod TextOfRun
 pub mod WriteLemmas
 pub mod WholeLines
 pub mod Fronts

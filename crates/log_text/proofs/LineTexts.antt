@@ -11,7 +11,7 @@ use Rattle.log_text.specs.Begins.{BeginsWithRow, BeginsWithNoRow, BeginsWithHead
 use Rattle.log_text.specs.Form.{IsInForm, IsRecordInForm, MayHave, most_read}
 use Rattle.log_text.specs.Reads.{behind_blanks, Closes, Reads, ReadsHarts}
 use Rattle.log_text.specs.Spelling.{Entry, page, row, arc_words, kind_words, page_word, point_word, record_words, entry_words, entry_text, line_text, header_text}
-use Rattle.log_text.specs.WellFormed.{IsBlockSize}
+use Rattle.pl_event.specs.Runs.{IsBlockSize}
 use Rattle.log_text.proofs.Chain.{behind_append, same_behind}
 
 join_behind : (word : List ℕ) (words : List (List ℕ)) (rest : List ℕ) → 32 ∷ (join_with_byte 32 (word ∷ words) ++ rest) ≡ behind_blanks (word ∷ words) rest

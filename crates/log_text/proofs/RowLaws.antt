@@ -26,6 +26,7 @@ use Rattle.log_text.specs.Parts.{HasValidParts, IsValidLine, IsValidRecord}
 use Rattle.log_text.specs.Reading.{IsOnly, arcs_of}
 use Rattle.log_text.specs.Spelling.{Entry, page, row, row_of, points_from, entries_of}
 use Rattle.log_text.specs.WellFormed.{is_row, breaks, breaks_page, breaks_records, breaks_hart, breaks_ended, breaks_arc, breaks_notice, names_past, is_waiting, broken, is_misaligned, passes_end, is_bad_map, on_event, Continues, IsLawful, IsWellFormed, rules_in_order}
+use Rattle.log_text.proofs.RowRules.{valid_kind}
 
 -- where nothing is found, no test holds
 none_found : {X : Type 0} (b : Bool) (x : X) (o : Option X) → cond b (Some x) o ≡ None → (b ≡ false) × (o ≡ None)
@@ -56,25 +57,6 @@ row_keeps harts before what points none =
     let range = none_found (on_event passes_end what) Range (find (breaks harts before (row what points)) (Map ∷ [])) access.1 in
     let maps = none_found (on_event (is_bad_map before) what) Map None range.1 in
     record { records = records.0; hart = hart.0; ended = ended.0; waiting = waits.0; arc = arc.0; notice = notice.0; access = access.0; range = range.0; map = maps.0 }
-
--- the fields of a kind in form that breaks no rule are in their ranges
-valid_kind : (before : List Entry) (kind : Kind) → HasFormFields kind → is_misaligned kind ≡ false → passes_end kind ≡ false → is_bad_map before kind ≡ false → HasValidFields kind
-valid_kind before (Ld width rd rb addr) form aligned ends maps = (form.0, form.1, (form.2, eqb-true (addr % load_bytes width) 0 (not-false _ aligned)))
-valid_kind before (St width rv rb addr) form aligned ends maps = (form.0, form.1, (form.2, eqb-true (addr % store_bytes width) 0 (not-false _ aligned)))
-valid_kind before (Op rd r1 r2) form aligned ends maps = form
-valid_kind before (Mv rd rs) form aligned ends maps = form
-valid_kind before (Im rd) form aligned ends maps = form
-valid_kind before (Br r1 r2) form aligned ends maps = form
-valid_kind before (Jr rd rs) form aligned ends maps = form
-valid_kind before (Al addr len) form aligned ends maps = (form.0, form.1, form.2, ltb-false (2 ^ 24) (addr + len) ends)
-valid_kind before (Fr addr len) form aligned ends maps = (form.0, form.1, form.2, ltb-false (2 ^ 24) (addr + len) ends)
-valid_kind before (Bf addr) form aligned ends maps = tt
-valid_kind before (Mp first count) form aligned ends maps = (form.0, form.1, form.2, ltb-false 4096 (first + count) (or_parts _ _ (or_parts _ _ maps).0).0)
-valid_kind before (Um first count) form aligned ends maps = (form.0, form.1, form.2, ltb-false 4096 (first + count) (or_parts _ _ maps).0)
-valid_kind before (Rd addr len) form aligned ends maps = (form.0, form.1, form.2, ltb-false (2 ^ 24) (addr + len) ends)
-valid_kind before (Wr addr len) form aligned ends maps = (form.0, form.1, form.2, ltb-false (2 ^ 24) (addr + len) ends)
-valid_kind before Ex form aligned ends maps = tt
-valid_kind before (Ft cause addr) form aligned ends maps = tt
 
 valid_record : (harts : ℕ) (before : List Entry) (what : Record) (points : List Point) → IsRecordInForm most_read what → RowKeeps harts before what points → IsValidRecord harts what
 valid_record harts before (entry.Event event) points form keeps = (leb-false harts event.hart (or_parts _ _ keeps.hart).0, valid_kind before event.kind form.1 keeps.access keeps.range keeps.map)

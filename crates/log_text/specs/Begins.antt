@@ -8,7 +8,7 @@ use Rattle.log_text.specs.Arcs.{ShowsPoints}
 use Rattle.log_text.specs.Spelling.{Entry, page, row, arc_words, header_text, line_text, entry_text}
 use Rattle.log_text.specs.Form.{IsInForm, ArePointsInForm, MayHave, most_read}
 use Rattle.log_text.specs.Reads.{behind_blanks}
-use Rattle.log_text.specs.WellFormed.{IsBlockSize}
+use Rattle.pl_event.specs.Runs.{IsBlockSize}
 
 -- the bytes begin with this line in form and its line feed, and with no other
 pub record Begins (bytes : List ℕ) (e : Entry) (rest : List ℕ) : Type 0 where

@@ -1,6 +1,7 @@
 -- Which lines are in form: each field is in its range, whatever stands before it.
 use Rattle.std.specs.Prelude.{◌≡◌, ℕ, ◌^◌, ◌<◌, ◌≤◌, List, []}
 use Rattle.std.specs.List.{AllByRecursion}
+use Rattle.pl_base.specs.declared.layout.TheConstants.{MAX_CALL_BYTES, MAX_MAPPED_PAGES, MAX_RECORDS, MEMORY_BYTES}
 use Rattle.pl_event.specs.Valid.{IsRegister}
 use Rattle.pl_event.specs.declared.event.Kind.{Kind}
 use Rattle.pl_event.specs.declared.event.Kind.TheVariants.{Ld, St, Op, Mv, Im, Br, Jr, Al, Fr, Bf, Mp, Um, Rd, Wr, Ex, Ft}
@@ -11,16 +12,16 @@ use Rattle.log_text.specs.Spelling.{Entry, page, row}
 
 -- an address of memory, and 1 to 65,536 bytes
 abbrev pub IsBlock : ℕ → ℕ → Type 0
-IsBlock addr len = (addr < 2 ^ 24) × (1 ≤ len) × (len ≤ 65536)
+IsBlock addr len = (addr < MEMORY_BYTES) × (1 ≤ len) × (len ≤ MAX_CALL_BYTES)
 
 -- a page, and 1 to 512 of them
 abbrev pub IsPages : ℕ → ℕ → Type 0
-IsPages first count = (first ≤ 4095) × (1 ≤ count) × (count ≤ 512)
+IsPages first count = (first ≤ 4095) × (1 ≤ count) × (count ≤ MAX_MAPPED_PAGES)
 
 -- the fields of each kind
 abbrev pub HasFormFields : Kind → Type 0
-HasFormFields (Ld width rd rb addr) = IsRegister rd × IsRegister rb × (addr < 2 ^ 24)
-HasFormFields (St width rv rb addr) = IsRegister rv × IsRegister rb × (addr < 2 ^ 24)
+HasFormFields (Ld width rd rb addr) = IsRegister rd × IsRegister rb × (addr < MEMORY_BYTES)
+HasFormFields (St width rv rb addr) = IsRegister rv × IsRegister rb × (addr < MEMORY_BYTES)
 HasFormFields (Op rd r1 r2) = IsRegister rd × IsRegister r1 × IsRegister r2
 HasFormFields (Mv rd rs) = IsRegister rd × IsRegister rs
 HasFormFields (Im rd) = IsRegister rd
@@ -59,7 +60,7 @@ IsInForm most (row what points) = IsRecordInForm most what × ArePointsInForm mo
 
 -- the greatest record number of a log that is read
 abbrev pub most_read : ℕ
-most_read = 2000000
+most_read = MAX_RECORDS
 
 -- the greatest record number that is written
 abbrev pub most_written : ℕ

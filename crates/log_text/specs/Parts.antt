@@ -1,5 +1,6 @@
 -- What a reader of a well-formed log may rely on.
 use Rattle.std.specs.Prelude.{ℕ, ◌+◌, ◌<◌, ◌≤◌, length, All}
+use Rattle.pl_base.specs.declared.layout.TheConstants.{MAX_RECORDS, PAGE_COUNT}
 use Rattle.pl_event.specs.Valid.{IsValidEvent}
 use Rattle.pl_event.specs.declared.log.Line.{Line}
 use Rattle.pl_event.specs.declared.log.Log.{Log}
@@ -18,6 +19,6 @@ IsValidLine harts line = IsValidRecord harts line.what
 pub record HasValidParts (log : Log) : Type 0 where
   pub some : 1 ≤ log.harts
   pub few : log.harts ≤ 8
-  pub inside : All (λ run. run.first + run.count ≤ 4096) log.pages
+  pub inside : All (λ run. run.first + run.count ≤ PAGE_COUNT) log.pages
   pub valid : All (IsValidLine log.harts) log.lines
-  pub short : length log.lines ≤ 2000000
+  pub short : length log.lines ≤ MAX_RECORDS

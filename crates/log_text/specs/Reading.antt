@@ -10,13 +10,15 @@ use Rattle.log_text.specs.declared.reader.LogReader.{LogReader}
 use Rattle.log_text.specs.declared.reader.Header.{Header}
 use Rattle.log_text.specs.declared.reader.Row.{Row}
 use Rattle.std.specs.List.{list_any}
+use Rattle.pl_base.specs.declared.layout.TheConstants.{MAX_RECORDS}
 use Rattle.log_text.specs.Arcs.{arcs_in}
 use Rattle.log_text.specs.Begins.{BeginsWithNoPage}
 use Rattle.log_text.specs.Form.{most_read}
 use Rattle.log_text.specs.Parts.{IsValidLine}
 use Rattle.log_text.specs.Spelling.{Entry, header_text, line_text, entries_text, entries_of}
 use Rattle.log_text.specs.Tally.{Keeps}
-use Rattle.log_text.specs.WellFormed.{IsBlockSize, is_row, IsLawful, IsLogText, IsFirstFault, rules_in_order}
+use Rattle.log_text.specs.WellFormed.{is_row, IsLawful, IsLogText, IsFirstFault, rules_in_order}
+use Rattle.pl_event.specs.Runs.{IsBlockSize}
 
 -- another log of the bytes has the same lines so far
 pub record IsAlike (harts block : ℕ) (before : List Entry) (rest : List ℕ) (other : Log) : Type 0 where
@@ -82,7 +84,7 @@ with_pages log run = record log { pages = log.pages ++ run ∷ [] }
 pub record ReadsRow (reader : LogReader) (bytes rest : List ℕ) (log : Log) (row : Row) : Type 0 where
   pub read : HasRead reader bytes rest (with_line log (line_of reader row))
   pub valid : IsValidLine log.harts (line_of reader row)
-  pub room : length log.lines < 2000000
+  pub room : length log.lines < MAX_RECORDS
 
 -- the bytes are the log's, and no other's
 pub record IsOnly (bytes : List ℕ) (log : Log) : Type 0 where

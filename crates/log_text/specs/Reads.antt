@@ -2,6 +2,7 @@
 use Rattle.std.specs.Prelude.{◌≡◌, ℕ, ◌^◌, ◌<◌, ◌≤◌, List, [], ◌∷◌, ◌++◌, length, take, drop, Option, IfSome, IsSomeAnd}
 use Rattle.std.specs.Borrow.{Bor}
 use Rattle.std.specs.Fmt.{decimal}
+use Rattle.pl_base.specs.declared.layout.TheConstants.{MEMORY_BYTES}
 use Rattle.pl_event.specs.Valid.{IsRegister}
 use Rattle.pl_event.specs.declared.event.Kind.{Kind}
 use Rattle.pl_event.specs.declared.log.PageRun.{PageRun}
@@ -39,7 +40,7 @@ IsFrom least most n = (least ≤ n) × (n ≤ most)
 
 -- the registers and the address of a load or a store
 abbrev pub IsAccess : ℕ × ℕ × ℕ → Type 0
-IsAccess a = IsRegister a.0 × IsRegister a.1 × (a.2 < 2 ^ 24)
+IsAccess a = IsRegister a.0 × IsRegister a.1 × (a.2 < MEMORY_BYTES)
 
 abbrev pub access_words : ℕ × ℕ × ℕ → List (List ℕ)
 access_words a = decimal a.0 ∷ decimal a.1 ∷ hex a.2 ∷ []

@@ -1,6 +1,7 @@
 -- How far a log was read from its source, of which only a window is at hand.
 use Rattle.std.specs.Prelude.{◌≡◌, ◌⊎◌, ℕ, ◌+◌, ◌^◌, ◌<◌, ◌≤◌, true, false, List, [], ◌++◌, length, Option, Some, None, Result, Ok, Err}
 use Rattle.std.specs.Io.KnownBytes.{Consumes, IsAtEnd}
+use Rattle.pl_base.specs.declared.layout.TheConstants.{MAX_RECORDS}
 use Rattle.pl_base.specs.Fronts.{TakesFront}
 use Rattle.pl_base.specs.LineBuffer.{Window, ends_line}
 use Rattle.pl_event.specs.declared.log.Log.{Log}
@@ -34,7 +35,7 @@ IsStreamed limit began now stream log = Streams limit began now stream.buffer (�
 pub record StreamsRow (limit : ℕ) (began now : Option (List ℕ)) (stream : LogStream) (log : Log) (row : Row) : Type 0 where
   pub read : IsStreamed limit began now stream (with_line log (line_of stream.reader row))
   pub valid : IsValidLine log.harts (line_of stream.reader row)
-  pub room : length log.lines < 2000000
+  pub room : length log.lines < MAX_RECORDS
 
 -- the source was read to its end, within the limit, and P holds of its bytes
 pub record WasRead (limit : ℕ) (began now : Option (List ℕ)) (P : List ℕ → Type 0) : Type 0 where

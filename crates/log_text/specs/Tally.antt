@@ -1,6 +1,7 @@
 -- What is kept of the lines so far.
 use Rattle.std.specs.Prelude.{◌≡◌, ℕ, ◌+◌, ◌<◌, ◌≤◌, Bool, true, false, ◌&&◌, ◌==◌, List, Some, None, count_by, slice_index_or, slice_set, if◌then◌else◌}
 use Rattle.std.specs.List.{list_any}
+use Rattle.pl_base.specs.declared.layout.TheConstants.{MAX_RECORDS, PAGE_COUNT}
 use Rattle.pl_event.specs.declared.event.Kind.{Kind}
 use Rattle.pl_event.specs.declared.event.Kind.TheVariants.{Mp, Um}
 use Rattle.pl_event.specs.declared.log.Point.{Point}
@@ -8,7 +9,9 @@ use Rattle.pl_event.specs.declared.log.Record.TheVariants as entry
 use Rattle.log_text.specs.declared.tally.Tally.{Tally}
 use Rattle.log_text.specs.Pages.{holds_at}
 use Rattle.log_text.specs.Spelling.{Entry, page, row}
-use Rattle.log_text.specs.WellFormed.{is_row, ends_hart, mapped_by, is_end_of, is_notice_of, page_end, mapped_in, records_in}
+use Rattle.log_text.specs.WellFormed.{is_row, is_end_of, is_notice_of, page_end, mapped_in, records_in}
+use Rattle.pl_event.specs.Mapping.{mapped_by}
+use Rattle.pl_event.specs.Runs.{ends_hart}
 
 -- the line is the hart's notice of the point
 abbrev pub tells : ℕ → Point → Entry → Bool
@@ -21,8 +24,8 @@ is_told before hart point = list_any (tells hart point) before
 
 -- pages of memory
 abbrev pub MapsInside : Kind → Type 0
-MapsInside (Mp first count) = first + count ≤ 4096
-MapsInside (Um first count) = first + count ≤ 4096
+MapsInside (Mp first count) = first + count ≤ PAGE_COUNT
+MapsInside (Um first count) = first + count ≤ PAGE_COUNT
 MapsInside _ = Unit {0}
 
 -- the tally stands for these lines of so many harts
@@ -32,7 +35,7 @@ pub record Keeps (tally : Tally) (before : List Entry) : Type 0 where
   pub end : tally.next_page ≡ page_end before
   pub mapped : holds_at tally.pages.pages.items ≡ mapped_in before
   pub rows : tally.records ≡ count_by is_row before
-  pub short : count_by is_row before ≤ 2000000
+  pub short : count_by is_row before ≤ MAX_RECORDS
   pub numbers : (hart : ℕ) → hart < 8 → slice_index_or tally.numbers hart 0 ≡ records_in hart before
   pub ended : (hart : ℕ) → hart < 8 → slice_index_or tally.ended hart false ≡ list_any (is_end_of hart) before
   -- each hart's last record is kept where it is a notice, and each notice whose event has not come is a last record

@@ -1,6 +1,7 @@
 -- Which lines may follow which, and the first line that may not.
 use Rattle.std.specs.Prelude.{◌≡◌, ℕ, ◌+◌, ◌%◌, ◌^◌, ◌<◌, ◌≤◌, ◌⊎◌, Bool, true, false, not, ◌&&◌, ◌||◌, ◌==◌, nat_lt, nat_le, List, [], ◌∷◌, ◌++◌, length, fold, count_by, filter, find, All, Option, Some, None, Result, Ok, Err}
 use Rattle.std.specs.List.{list_any}
+use Rattle.pl_base.specs.declared.layout.TheConstants.{MAX_MAPPED_PAGES, MAX_RECORDS, MEMORY_BYTES, PAGE_COUNT}
 use Rattle.pl_base.specs.Widths.{load_bytes, store_bytes}
 use Rattle.pl_event.specs.declared.event.Kind.{Kind}
 use Rattle.pl_event.specs.declared.event.Kind.TheVariants.{Ld, St, Al, Fr, Mp, Um, Rd, Wr, Ex, Ft}
@@ -10,7 +11,9 @@ use Rattle.pl_event.specs.declared.log.Point.{Point}
 use Rattle.pl_event.specs.declared.log.Record.{Record}
 use Rattle.pl_event.specs.declared.log.Record.TheVariants as entry
 use Rattle.pl_event.specs.Alerts.{is_alert_kind}
+use Rattle.pl_event.specs.Mapping.{mapped_by}
 use Rattle.pl_event.specs.Numbers.{hart_of}
+use Rattle.pl_event.specs.Runs.{ends_hart, IsBlockSize}
 use Rattle.log_text.specs.declared.cause.LogCause.{LogCause}
 use Rattle.log_text.specs.declared.cause.LogCause.TheVariants.{Header, Form, Page, Records, Hart, Ended, Open, Arc, Notice, Access, Range, Map}
 use Rattle.log_text.specs.declared.cause.LogFault.{LogFault}
@@ -18,7 +21,8 @@ use Rattle.log_text.specs.declared.cause.LogRefused.{LogRefused}
 use Rattle.log_text.specs.declared.cause.LogRefused.TheVariants as refused
 use Rattle.log_text.specs.Spelling.{Entry, page, row, header_text, line_text, entry_text, entries_text, entries_of, log_spelling}
 use Rattle.log_text.specs.Form.{IsInForm, most_read, most_written}
-use Rattle.log_text.specs.Pages.{marked, some_page, count_below}
+use Rattle.log_text.specs.Pages.{some_page}
+use Rattle.pl_base.specs.Pages.{marked, count_below}
 use Rattle.log_text.specs.Arcs.{is_rising}
 
 -- Records
@@ -54,11 +58,6 @@ abbrev pub page_end : List Entry → ℕ
 page_end entries = fold end_after 0 entries
 
 -- which pages are mapped after one more line
-abbrev pub mapped_by : (ℕ → Bool) → Kind → ℕ → Bool
-mapped_by mapped (Mp first count) = marked mapped first count true
-mapped_by mapped (Um first count) = marked mapped first count false
-mapped_by mapped _ = mapped
-
 abbrev pub mapped_after : (ℕ → Bool) → Entry → ℕ → Bool
 mapped_after mapped (page run) = marked mapped run.first run.count true
 mapped_after mapped (row (entry.Event event) points) = mapped_by mapped event.kind
@@ -69,14 +68,9 @@ abbrev pub mapped_in : List Entry → ℕ → Bool
 mapped_in entries = fold mapped_after (λ page. false) entries
 
 abbrev pub pages_mapped : List Entry → ℕ
-pages_mapped entries = count_below (mapped_in entries) 4096
+pages_mapped entries = count_below (mapped_in entries) PAGE_COUNT
 
 -- Ends and notices
-
-abbrev pub ends_hart : Kind → Bool
-ends_hart Ex = true
-ends_hart (Ft cause addr) = true
-ends_hart _ = false
 
 -- the line ends the hart
 abbrev pub is_end_of : ℕ → Entry → Bool
@@ -112,11 +106,11 @@ is_awaited entries hart = list_any (is_notice_of hart (records_in hart entries +
 -- a page line follows a record, starts below the end of the run before it, passes the last page, or maps more than 512
 abbrev pub breaks_page : List Entry → PageRun → Bool
 breaks_page before run =
-    list_any is_row before || nat_lt run.first (page_end before) || nat_lt 4096 (run.first + run.count) || nat_lt 512 (pages_mapped before + run.count)
+    list_any is_row before || nat_lt run.first (page_end before) || nat_lt PAGE_COUNT (run.first + run.count) || nat_lt MAX_MAPPED_PAGES (pages_mapped before + run.count)
 
 -- 2,000,000 records stand before
 abbrev pub breaks_records : List Entry → Bool
-breaks_records before = nat_le 2000000 (count_by is_row before)
+breaks_records before = nat_le MAX_RECORDS (count_by is_row before)
 
 -- the record is of a hart that the run does not have, or names one
 abbrev pub names_past : ℕ → Record → Bool
@@ -152,16 +146,16 @@ is_misaligned _ = false
 
 -- a range of bytes passes the end of memory
 abbrev pub passes_end : Kind → Bool
-passes_end (Al addr len) = nat_lt (2 ^ 24) (addr + len)
-passes_end (Fr addr len) = nat_lt (2 ^ 24) (addr + len)
-passes_end (Rd addr len) = nat_lt (2 ^ 24) (addr + len)
-passes_end (Wr addr len) = nat_lt (2 ^ 24) (addr + len)
+passes_end (Al addr len) = nat_lt MEMORY_BYTES (addr + len)
+passes_end (Fr addr len) = nat_lt MEMORY_BYTES (addr + len)
+passes_end (Rd addr len) = nat_lt MEMORY_BYTES (addr + len)
+passes_end (Wr addr len) = nat_lt MEMORY_BYTES (addr + len)
 passes_end _ = false
 
 -- pages past the last one, mapped pages that are mapped again, more than 512 of them, or unmapped ones that are unmapped
 abbrev pub is_bad_map : List Entry → Kind → Bool
-is_bad_map before (Mp first count) = nat_lt 4096 (first + count) || some_page (mapped_in before) first count || nat_lt 512 (pages_mapped before + count)
-is_bad_map before (Um first count) = nat_lt 4096 (first + count) || some_page (λ page. not (mapped_in before page)) first count
+is_bad_map before (Mp first count) = nat_lt PAGE_COUNT (first + count) || some_page (mapped_in before) first count || nat_lt MAX_MAPPED_PAGES (pages_mapped before + count)
+is_bad_map before (Um first count) = nat_lt PAGE_COUNT (first + count) || some_page (λ page. not (mapped_in before page)) first count
 is_bad_map before _ = false
 
 -- whether a line breaks the rule of a cause after the lines before it
@@ -209,10 +203,6 @@ pub record Continues (rules : List LogCause) (most harts : ℕ) (before : List E
 -- each line continues those before it
 abbrev pub IsLawful : List LogCause → ℕ → ℕ → List Entry → Type 0
 IsLawful rules most harts entries = (before after : List Entry) (e : Entry) → entries ≡ before ++ e ∷ after → Continues rules most harts before e
-
--- blocks of 16 bytes, as version 1 has them, or of 4, as version 2
-abbrev pub IsBlockSize : ℕ → Type 0
-IsBlockSize block = (block ≡ 16) ⊎ (block ≡ 4)
 
 -- 1 to 8 harts and a size of blocks, each line continues those before it, and the event of each notice comes
 pub record KeepsRules (rules : List LogCause) (most : ℕ) (log : Log) : Type 0 where

@@ -1,4 +1,4 @@
-//! The rules, one function each: whether a line breaks it behind the lines that a tally stands for.
+//! The rules, one function each: whether a line breaks it after the lines of which a tally tells.
 //!
 //! A hart that the run has is below 8, so its remainder by 8 is itself; taken as an index, it needs no test.
 
@@ -11,23 +11,20 @@ ghost use Rattle.pl_event.specs.Numbers.{hart_of};
 ghost use Rattle.log_text.specs.Arcs.{ShowsPoints, arc_of, arcs_in};
 ghost use Rattle.log_text.specs.Spelling.{Entry, row, page, points_from};
 ghost use Rattle.log_text.specs.Tally.{Keeps};
-ghost use Rattle.log_text.specs.WellFormed.{broken, breaks, rules_of_fields, breaks_page, breaks_records, breaks_hart, breaks_ended, breaks_arc, breaks_notice, names_past, is_waiting, is_awaited, records_in, is_bad_notice, is_notice, has_pending, on_event, is_misaligned, passes_end, is_bad_map, ends_hart};
+ghost use Rattle.log_text.specs.WellFormed.{broken, breaks, rules_of_fields, breaks_page, breaks_records, breaks_hart, breaks_ended, breaks_arc, breaks_notice, names_past, is_waiting, is_awaited, records_in, is_bad_notice, is_notice, has_pending, on_event, is_misaligned, passes_end, is_bad_map};
+ghost use Rattle.pl_event.specs.Runs.{ends_hart};
 
 use crate::cause::LogCause;
-use crate::page_set::PAGES;
 use crate::points::ArcList;
 use crate::tally::Tally;
+use pl_base::layout::{MAX_MAPPED_PAGES, MAX_RECORDS, MEMORY_BYTES, PAGE_COUNT};
 use pl_base::{LoadWidth, StoreWidth};
 use pl_event::{Kind, PageRun, Point, Record, is_alert, record_hart};
 
-/// How many records a log can have.
-const MAX_RECORDS: u32 = 2_000_000;
+/// How many pages are mapped at most, and how many bytes memory has, as numbers to which a count is added.
+const MAX_MAPPED: u64 = MAX_MAPPED_PAGES as u64;
 
-/// How many pages can be mapped.
-const MAX_MAPPED: u64 = 512;
-
-/// How many bytes memory has.
-const MEMORY: u64 = 0x0100_0000;
+const MEMORY: u64 = MEMORY_BYTES as u64;
 
 /// The first rule that a run of pages breaks behind the lines so far.
 pub fn judge_page(tally: &Tally, run: PageRun) -> Option<LogCause>
@@ -46,7 +43,7 @@ fn is_misplaced(tally: &Tally, run: PageRun) -> bool
     let first = u32::from(run.first);
     let end = first + u32::from(run.count);
     let mapped = u64::from(tally.pages.count()) + u64::from(run.count);
-    (tally.records != 0) | (first < tally.next_page) | (end > PAGES) | (mapped > MAX_MAPPED)
+    (tally.records != 0) | (first < tally.next_page) | (end > PAGE_COUNT) | (mapped > MAX_MAPPED)
 }
 
 /// The first rule that a record breaks behind the lines so far.
@@ -292,7 +289,7 @@ fn may_map(tally: &Tally, page: u16, count: u16) -> bool
 {
     let first = u32::from(page);
     let count = u32::from(count);
-    first + count <= PAGES
+    first + count <= PAGE_COUNT
         && !tally.pages.holds_some(first, count)
         && u64::from(tally.pages.count()) + u64::from(count) <= MAX_MAPPED
 }
@@ -302,7 +299,7 @@ fn may_unmap(tally: &Tally, page: u16, count: u16) -> bool
 {
     let first = u32::from(page);
     let count = u32::from(count);
-    first + count <= PAGES && !tally.pages.lacks_some(first, count)
+    first + count <= PAGE_COUNT && !tally.pages.lacks_some(first, count)
 }
 
 /// Whether a notice waits for its event.

@@ -19,7 +19,7 @@ mod tally;
 mod write;
 
 pub use cause::{LogCause, LogFault, LogRefused};
-pub use laws::log_flow;
+pub use laws::log_laws;
 pub use read::read_log;
 pub use reader::Row;
 pub use stream::{LogEnd, LogStream, Opening};

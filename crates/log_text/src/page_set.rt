@@ -1,10 +1,9 @@
 ghost use Rattle.std.specs.Prelude.{◌≡◌, ◌+◌, ◌≤◌, length, false, true, not, IfOk};
-ghost use Rattle.log_text.specs.Pages.{holds_at, marked, some_page, count_below};
+ghost use Rattle.log_text.specs.Pages.{holds_at, some_page};
+ghost use Rattle.pl_base.specs.Pages.{marked, count_below};
 
+use pl_base::layout::PAGE_COUNT;
 use std::alloc::{AllocError, Global};
-
-/// How many pages memory has.
-pub const PAGES: u32 = 4096;
 
 /// Which pages are mapped, and how many.
 #[derive(Drop)]
@@ -23,7 +22,7 @@ impl PageSet {
         ensures { IfOk result (λ set. holds_at set.pages.items ≡ (λ page. false)) }
     {
         Ok(PageSet {
-            pages: unmapped(alloc, PAGES as usize)?,
+            pages: unmapped(alloc, PAGE_COUNT as usize)?,
             mapped: 0,
         })
     }
@@ -31,14 +30,14 @@ impl PageSet {
     /// How many pages are mapped.
     #[inline]
     pub fn count(&self) -> u32
-        ensures { result ≡ count_below (holds_at self.now.pages.items) 4096 }
+        ensures { result ≡ count_below (holds_at self.now.pages.items) PAGE_COUNT }
     {
         self.mapped
     }
 
     /// Whether one of `count` pages from `first` on is mapped.
     pub fn holds_some(&self, first: u32, count: u32) -> bool
-        requires { first + count ≤ 4096 }
+        requires { first + count ≤ PAGE_COUNT }
         ensures { result ≡ some_page (holds_at self.now.pages.items) first count }
     {
         some_marked(&self.pages, first as usize, count as usize)
@@ -46,7 +45,7 @@ impl PageSet {
 
     /// Whether one of `count` pages from `first` on is not mapped.
     pub fn lacks_some(&self, first: u32, count: u32) -> bool
-        requires { first + count ≤ 4096 }
+        requires { first + count ≤ PAGE_COUNT }
         ensures { result ≡ some_page (λ page. not (holds_at self.now.pages.items page)) first count }
     {
         some_unmarked(&self.pages, first as usize, count as usize)
@@ -54,10 +53,10 @@ impl PageSet {
 
     /// Maps `count` pages from `first` on, or unmaps them.
     pub fn mark(&mut self, first: u16, count: u16, mapped: bool)
-        ensures { first + count ≤ 4096 → holds_at self.new.pages.items ≡ marked (holds_at self.old.pages.items) first count mapped }
+        ensures { first + count ≤ PAGE_COUNT → holds_at self.new.pages.items ≡ marked (holds_at self.old.pages.items) first count mapped }
     {
         let from = u32::from(first);
-        let end = (from + u32::from(count)).min(PAGES);
+        let end = (from + u32::from(count)).min(PAGE_COUNT);
         'pages: for page in from..end {
             self.set(page, mapped);
         }
@@ -65,7 +64,7 @@ impl PageSet {
 
     /// Maps or unmaps one page.
     fn set(&mut self, page: u32, mapped: bool)
-        requires { page < 4096 }
+        requires { page < PAGE_COUNT }
         ensures { holds_at self.new.pages.items ≡ marked (holds_at self.old.pages.items) page 1 mapped }
     {
         let at = page as usize;

@@ -5,11 +5,9 @@ ghost use Rattle.log_text.specs.Reads.{ReadsPoint, IsArcList, behind_commas};
 ghost use Rattle.log_text.specs.Begins.{EndsWithArcs, EndsWithNone};
 
 use crate::points::ArcList;
+use pl_base::layout::MAX_RECORDS;
 use pl_event::{Point, Record};
 use pl_text::{after_byte, after_word, decimal_at, digit_at};
-
-/// How many records a log can have.
-const MAX_RECORDS: u32 = 2_000_000;
 
 /// A hart and the number of a record of it.
 #[inline]

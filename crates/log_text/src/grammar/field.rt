@@ -7,6 +7,7 @@ ghost use Rattle.log_text.specs.Form.{IsBlock, IsPages};
 ghost use Rattle.log_text.specs.Spelling.{hex, load_word, store_word, fault_word, page_word};
 ghost use Rattle.log_text.specs.Reads.{Reads, IsAny, IsFrom, IsAccess, AreTwo, AreThree, number_word, access_words, two_words, three_words};
 
+use pl_base::layout::{MAX_CALL_BYTES, MAX_MAPPED_PAGES, PAGE_COUNT};
 use pl_base::{FaultCause, LoadWidth, StoreWidth};
 use pl_event::PageKind;
 use pl_text::{after_byte, after_word, decimal_at, digit_at, first_byte, hex_at, short_decimal_at};
@@ -82,7 +83,7 @@ pub fn block(text: &[u8]) -> Option<((u32, u32), &[u8])>
     ensures { Reads (λ b. IsBlock b.0 b.1) (λ b. hex b.0 ∷ decimal b.1 ∷ []) text.now result }
 {
     let (addr, rest) = address(text)?;
-    let (len, rest) = count(rest, 65_536)?;
+    let (len, rest) = count(rest, MAX_CALL_BYTES)?;
     Some(((addr, len), rest))
 }
 
@@ -90,8 +91,8 @@ pub fn block(text: &[u8]) -> Option<((u32, u32), &[u8])>
 pub fn pages(text: &[u8]) -> Option<((u16, u16), &[u8])>
     ensures { Reads (λ p. IsPages p.0 p.1) (λ p. decimal p.0 ∷ decimal p.1 ∷ []) text.now result }
 {
-    let (first, rest) = number(text, 4095)?;
-    let (count, rest) = count(rest, 512)?;
+    let (first, rest) = number(text, PAGE_COUNT - 1)?;
+    let (count, rest) = count(rest, MAX_MAPPED_PAGES)?;
     Some(((first as u16, count as u16), rest))
 }
 

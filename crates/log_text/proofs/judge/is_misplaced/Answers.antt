@@ -1,5 +1,5 @@
 use Rattle.std.proofs.Common.{Bool, ℕ, refl, ap, ◌∙◌}
-use Rattle.log_text.specs.Pages.{count_below}
+use Rattle.pl_base.specs.Pages.{count_below}
 use Rattle.log_text.proofs.RuleLemmas.{breaks_page-counted}
 use Rattle.log_text.proofs.judge.is_misplaced.Goals as goal
 

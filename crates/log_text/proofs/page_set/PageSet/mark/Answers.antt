@@ -1,6 +1,7 @@
 use Rattle.std.proofs.Common.{◌≡◌, ◌+◌, ◌-◌, Bool, ℕ, ap, ◌∙◌, arith}
-use Rattle.log_text.specs.Pages.{holds_at, marked}
-use Rattle.log_text.proofs.PageLemmas.{marked_more}
+use Rattle.log_text.specs.Pages.{holds_at}
+use Rattle.pl_base.specs.Pages.{marked}
+use Rattle.pl_base.proofs.Pages.{marked_more}
 use Rattle.log_text.proofs.page_set.PageSet.mark.Goals as goal
 
 pub pages-preserved : goal.pages-preserved

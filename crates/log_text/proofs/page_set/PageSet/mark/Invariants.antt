@@ -1,5 +1,6 @@
 use Rattle.std.proofs.Common.{◌≡◌, ◌-◌}
-use Rattle.log_text.specs.Pages.{holds_at, marked}
+use Rattle.log_text.specs.Pages.{holds_at}
+use Rattle.pl_base.specs.Pages.{marked}
 use Rattle.log_text.proofs.page_set.PageSet.mark.Given as goal
 
 abbrev pub invariant-pages : goal.invariant-pages

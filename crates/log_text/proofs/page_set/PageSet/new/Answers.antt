@@ -1,6 +1,6 @@
 use Rattle.std.proofs.Common.{sym, ap, ◌∙◌, rules}
-use Rattle.log_text.specs.Pages.{count_below}
-use Rattle.log_text.proofs.PageLemmas.{count_none}
+use Rattle.pl_base.specs.Pages.{count_below}
+use Rattle.pl_base.proofs.Pages.{count_none}
 use Rattle.log_text.proofs.page_set.PageSet.new.Goals as goal
 
 pub invariant_of-result : goal.invariant_of-result

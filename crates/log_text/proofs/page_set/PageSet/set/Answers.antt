@@ -1,6 +1,8 @@
 use Rattle.std.proofs.Common.{◌≡◌, ◌+◌, set, sym, arith, rules}
-use Rattle.log_text.specs.Pages.{holds_at, count_below}
-use Rattle.log_text.proofs.PageLemmas.{count_set, count_below-le}
+use Rattle.log_text.specs.Pages.{holds_at}
+use Rattle.pl_base.specs.Pages.{count_below}
+use Rattle.log_text.proofs.PageLemmas.{count_set}
+use Rattle.pl_base.proofs.Pages.{count_below-le}
 use Rattle.log_text.proofs.page_set.PageSet.set.Goals as goal
 
 -- the count before and after, at a page that is mapped

@@ -36,7 +36,7 @@ no_first_need c law u n h k low need =
     omega arith
 
 module _ (c : Course) where
-  met_less : (seen : ℕ → ℕ) (h m n : ℕ) → n ≤ m → IsMet c seen h m → IsMet c seen h n
+  pub met_less : (seen : ℕ → ℕ) (h m n : ℕ) → n ≤ m → IsMet c seen h m → IsMet c seen h n
   met_less seen h m n l met u o j need le = met u o j need (omega arith)
 
   -- where the needs of a record are met, and a path leads to it from another hart, that hart's progress word is not below

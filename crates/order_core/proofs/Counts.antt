@@ -177,7 +177,7 @@ module _ (c : Course) (names : InOrder c) (short : (p : ℕ) (a : Operation) →
       stranger : (h : ℕ) (b : Operation) → b.hart ≢ h → is_write_of h b ≡ false
       stranger h b n = and_no b.what.write (eqb b.hart h) (grind (arith, nat_tests))
 
-  -- all operations of a record stand before the next record
+  -- all operations of a record are before the next record
   pub next_record : (h n : ℕ) → count_by (is_before h n 4294967295) c.operations ≡ count_by (is_before h (n + 1) 0) c.operations
   next_record h n = count_same (is_before h n 4294967295) (is_before h (n + 1) 0) c.operations (λ q b y. dite (dec_le b.number n)
       (λ l. before_true h n 4294967295 b (low q b y l) ∙ sym (before_true h (n + 1) 0 b (inl (omega arith))))

@@ -66,7 +66,7 @@ module _ (plan : Planned) (k : Known (course_of plan)) where
         absurd (omega arith))
         lt_of_not-le
 
-    -- the cursor is the lower of what was found to be met and what stands before the next write
+    -- the cursor is the lower of what was found to be met and what is before the next write
     pub cursor_is : (low met : ℕ) → s.next.number ≡ low + 1 → IsMet c seen h met → ((m : ℕ) → m ≤ low → IsMet c seen h m → m ≤ met) → IsCursor c s.written seen h (min low met)
     cursor_is low met e is most = record {
       passed = passed_up (min low met) met (omega arith) (omega arith) is;
@@ -129,7 +129,7 @@ module _ (plan : Planned) (k : Known (course_of plan)) where
       apart q b is w e = let same : a ≡ b = some-injective a b (sym at ∙ subst (λ (z : ℕ). At c z b) (sym e) is) in
           let f : false ≡ true = sym is_read ∙ (ap (λ (z : Operation). z.what.write) same ∙ w) in absurd (cc)
 
-      -- no write that clashes stands between the read and the next write, whichever of them is first
+      -- no write that clashes is between the read and the next write, whichever of them is first
       abbrev IsClear : Type 0
       IsClear = (ClashesBetween c h o (place n i) (place s.next.number s.next.op) → ⊥) × (ClashesBetween c h o (place s.next.number s.next.op) (place n i) → ⊥)
 

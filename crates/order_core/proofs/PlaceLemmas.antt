@@ -33,7 +33,7 @@ below_or_not n i a = dite (dec_le n a.number)
     (λ ne. inr (⊎_elim (λ (t : a.number < n). omega arith) (λ (t : (a.number ≡ n) × (a.op < i)). ne t.0))))
     (λ l. inl (inl (lt_of_not-le l)))
 
--- no more writes stand before an earlier place
+-- no more writes are before an earlier place
 pub before_up : (c : Course) (h n i m j : ℕ) → i ≤ 4294967295 → j ≤ 4294967295 → place n i ≤ place m j → writes_before c h n i ≤ writes_before c h m j
 before_up c h n i m j small short le = count_less (is_before h n i) (is_before h m j) c.operations (λ a. ⊎_elim
     (λ (t : Below n i a). let x : bit (is_before h n i a) ≡ bit (is_write_of h a) = ap bit (before_true h n i a t) in

@@ -113,7 +113,7 @@ fn write<P: PlanOps>(plan: &P, state: &mut CoreState, hart: u8, at: Place, op: O
     true
 }
 
-// Whether a write that clashes with the hart's read stands between the read and the next write.
+// Whether a write that clashes with the hart's read is between the read and the next write.
 fn is_overtaken<P: PlanOps>(plan: &P, hart: u8, next: Place, at: Place, read: Op) -> bool
     requires hart { hart < (P.planned plan.now).log.harts }
     requires next_from { 1 ≤ next.number }

@@ -8,7 +8,7 @@ use Rattle.order_core.specs.declared.course.Operation.{Operation}
 use Rattle.order_core.specs.Lanes.{lane}
 use Rattle.order_core.specs.Course.{At, rank, left_by, length_of, writes_of}
 use Rattle.order_core.specs.Lawful.{IsLawful}
-use Rattle.order_core.specs.Core.{Core, done_by, IsDone, IsMet, IsConsistent, put}
+use Rattle.order_core.specs.Core.{Core, done_by, IsDone, IsMet, IsPassed, IsConsistent, put}
 use Rattle.order_core.specs.Freed.{HasEnded, after_free}
 use Rattle.order_core.proofs.Flatten.{inside}
 use Rattle.order_core.proofs.Ranks.{put_here, put_else, same_test, is_write, rank_lt, left_same}
@@ -21,6 +21,13 @@ module _ (c : Course) (k : Core) (st : IsConsistent c k) (h : ℕ) (ended : HasE
       let met : n ≤ k.seen h u = (st.1.passed h).1 u n m need (omega arith) in
       let up : k.seen h u ≤ k.progress u = st.1.seen h u in
       omega arith
+
+  -- each write of the hart is among its writes
+  counted : (p : ℕ) (a : Operation) → At c p a → a.hart ≡ h → a.what.write ≡ true → rank h c.operations p < writes_of c h
+  counted p a at own w = rank_lt h c.operations p (length c.operations) a at (is_write h a w own) (inside c.operations p a at)
+
+  pub passed : IsPassed c (writes_of c h) k.progress h (length_of c h)
+  passed = (omega arith, needs_told, λ p a at own w low. counted p a at own w)
 
   module _ (law : IsLawful c) where
     abbrev wrote : ℕ → ℕ
@@ -40,7 +47,7 @@ module _ (c : Course) (k : Core) (st : IsConsistent c k) (h : ℕ) (ended : HasE
     up p a at w d = dite (ℕ_discrete a.hart h)
         (λ own. subst (λ (z : ℕ). rank z c.operations p < wrote z) (sym own)
         (let e : wrote h ≡ writes_of c h = put_here k.written h (writes_of c h) in
-        let l : rank h c.operations p < writes_of c h = rank_lt h c.operations p (length c.operations) a at (is_write h a w own) (inside c.operations p a at) in
+        let l : rank h c.operations p < writes_of c h = counted p a at own w in
         omega arith))
         (λ other. let e : wrote a.hart ≡ k.written a.hart = put_else k.written h a.hart (writes_of c h) other in omega arith)
 

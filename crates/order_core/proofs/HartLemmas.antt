@@ -15,6 +15,7 @@ use Rattle.order_core.specs.Lawful.{IsName}
 use Rattle.order_core.specs.inner.Places.{place, operation_place, ClashesBetween}
 use Rattle.order_core.specs.inner.Kept.{IsKept}
 use Rattle.order_core.proofs.Counts.{rank_by_name, next_write}
+use Rattle.order_core.proofs.Keeps.{met_less}
 use Rattle.order_core.proofs.Known.{Known}
 use Rattle.order_core.proofs.Named.{op_of}
 use Rattle.order_core.proofs.Ranks.{is_write, rank_lt}
@@ -32,9 +33,6 @@ module _ (plan : Planned) (k : Known (course_of plan)) where
       let there : slice_get (plan.operations h n) i ≡ Some t.0 = subst (λ (z : ℕ × ℕ × ℕ). slice_get (plan.operations z.0 z.1) z.2 ≡ Some t.0) (λ d. (name.0 d, name.1 d, name.2 d)) t.1 in
       let same : t.0 ≡ o = (let u : Some o ≡ Some t.0 = sym e ∙ there in cc) in
       t.2 ∙ (λ d. operation_of (name.0 d) (name.1 d) (name.2 d) (same d))
-
-  pub met_down : (f : ℕ → ℕ) (h m n : ℕ) → n ≤ m → IsMet c f h m → IsMet c f h n
-  met_down f h m n le met u o j need l = met u o j need (omega arith)
 
   module _ (h : ℕ) (s : HartState) (kept : IsKept c h s) where
     abbrev seen : ℕ → ℕ
@@ -54,7 +52,7 @@ module _ (plan : Planned) (k : Known (course_of plan)) where
         let w : place s.next.number s.next.op ≤ place (length_of c h + 1) 0 = kept.within in
         let top : s.next.number ≤ length_of c h + 1 = omega arith in (
           omega arith,
-          met_down seen h met upto le is,
+          met_less c seen h met upto le is,
           λ p a at own wr number. let s' : a.op < 4294967295 = short plan k p a at in (done_before p a at own wr).1 (omega arith),
         )
 
@@ -68,7 +66,7 @@ module _ (plan : Planned) (k : Known (course_of plan)) where
         absurd (omega arith))
         lt_of_not-le
 
-    -- the cursor is the lower of what was found to be met and what stands before the next write
+    -- the cursor is the lower of what was found to be met and what is before the next write
     pub cursor_is : (low met : ℕ) → s.next.number ≡ low + 1 → IsMet c seen h met → ((m : ℕ) → m ≤ low → IsMet c seen h m → m ≤ met) → IsCursor c s.written seen h (min low met)
     cursor_is low met e is most = record {
       passed = passed_up (min low met) met (omega arith) (omega arith) is;
@@ -81,7 +79,7 @@ module _ (plan : Planned) (k : Known (course_of plan)) where
         let r : rank h c.operations p ≡ writes_before c h n i = rank_by_name c (names plan k) (short plan k) h n i p a at name in
         let same : writes_before c h n i ≡ s.written = (λ d. writes_before c h (one.0 d) (one.1 d)) ∙ sym kept.count in
         let number : a.number ≡ n = name.1 in
-        (at, w, name.0, r ∙ same, met_down seen h met a.number (omega arith) is)
+        (at, w, name.0, r ∙ same, met_less c seen h met a.number (omega arith) is)
 
     pub is_next : (p : ℕ) (a : Operation) → MayWrite c h s.written seen p a → operation_place a ≡ place s.next.number s.next.op
     is_next p a may =
@@ -131,7 +129,7 @@ module _ (plan : Planned) (k : Known (course_of plan)) where
       apart q b is w e = let same : a ≡ b = some-injective a b (sym at ∙ subst (λ (z : ℕ). At c z b) (sym e) is) in
           let f : false ≡ true = sym is_read ∙ (ap (λ (z : Operation). z.what.write) same ∙ w) in absurd (cc)
 
-      -- no write that clashes stands between the read and the next write, whichever of them is first
+      -- no write that clashes is between the read and the next write, whichever of them is first
       abbrev IsClear : Type 0
       IsClear = (ClashesBetween c h o (place n i) (place s.next.number s.next.op) → ⊥) × (ClashesBetween c h o (place s.next.number s.next.op) (place n i) → ⊥)
 
@@ -140,7 +138,7 @@ module _ (plan : Planned) (k : Known (course_of plan)) where
         at,
         is_read,
         refl,
-        met_down seen h met n le is,
+        met_less c seen h met n le is,
         up,
         λ q b there w own on. let d = done_before q b there own w in (
           (λ l. dite (dec_le p q)

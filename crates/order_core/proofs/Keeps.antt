@@ -19,7 +19,7 @@ use Rattle.order_core.specs.Lawful.{IsLawful}
 use Rattle.order_core.specs.Core.{Core, done_by, IsDone, IsMet, IsPassed, MayWrite, MayRead, HasSoundProgress, IsConsistent, put, after_write, after_advertise, after_see, opening_core}
 use Rattle.order_core.proofs.Ranks.{put_here, put_else, same_test, is_write, rank_lt, left_same, left_none, left_last}
 
--- a write and a read do not stand at one place, so two places of different kinds differ
+-- a write and a read are not at one place, so two places of different kinds differ
 same_act : (c : Course) (p : ℕ) (a b : Operation) → At c p a → At c p b → a ≡ b
 same_act c p a b x y = some-injective a b (sym x ∙ y)
 
@@ -36,7 +36,7 @@ no_first_need c law u n h k low need =
     omega arith
 
 module _ (c : Course) where
-  met_less : (seen : ℕ → ℕ) (h m n : ℕ) → n ≤ m → IsMet c seen h m → IsMet c seen h n
+  pub met_less : (seen : ℕ → ℕ) (h m n : ℕ) → n ≤ m → IsMet c seen h m → IsMet c seen h n
   met_less seen h m n l met u o j need le = met u o j need (omega arith)
 
   -- where the needs of a record are met, and a path leads to it from another hart, that hart's progress word is not below
@@ -146,7 +146,7 @@ module _ (c : Course) where
       same_here : (q : ℕ) (b : Operation) → At c q b → q ≡ p → b ≡ a
       same_here q b at e = same_act c p b a (subst (λ (z : ℕ). At c z b) e at) m.0
 
-      -- what stands before the new write is covered
+      -- what is before the new write is covered
       below_done : (q : ℕ) (b : Operation) → At c q b → q < p → b.what.write ≡ true → Meets a.what b.what → IsDone c now q b
       below_done q b at l w on = dite (ℕ_discrete b.hart a.hart)
           (λ e. let r : rank b.hart c.operations q < rank b.hart c.operations p = rank_lt b.hart c.operations q p b at (is_write b.hart b w refl) l in

@@ -1,5 +1,6 @@
 -- Each step on what is kept is the step of the core.
 use Rattle.std.proofs.Common.{◌≡◌, ℕ, ◌+◌, ◌<◌, ◌≤◌, true, false, length, List, Some, slice_get, slice_index, slice_set, refl, sym, ap, ◌∙◌, subst, inl, inr, arith}
+use Rattle.std.proofs.lemmas.List.{length-set}
 use mathlib.Core.Logic.{dite}
 use native.Mathlib.Decide.{ℕ_discrete}
 use Rattle.order_core.specs.declared.course.Course.{Course}
@@ -20,8 +21,8 @@ use Rattle.order_core.specs.inner.Kept.{IsKept, Fits}
 use Rattle.order_core.proofs.HartLemmas.{only_one, is_next, may_write, may_read, clear_read, seen_kept}
 use Rattle.order_core.proofs.Known.{Known}
 use Rattle.order_core.proofs.Named.{op_at}
-use Rattle.order_core.proofs.Ranks.{put_here, put_else}
-use Rattle.order_core.proofs.StateLemmas.{core_set, number_set, put_own, same_length, kept_set}
+use Rattle.order_core.proofs.Ranks.{put_here, put_else, put_same}
+use Rattle.order_core.proofs.StateLemmas.{core_set, number_set, kept_set}
 
 module _ (plan : Planned) (k : Known (course_of plan)) where
   abbrev c : Course
@@ -65,14 +66,14 @@ module _ (plan : Planned) (k : Known (course_of plan)) where
 
       pub see_fits : Fits c (record s { harts = slice_set s.harts h looked })
       see_fits = record {
-        harts = kept_set c s.harts fits.harts h looked in_eight (seen_kept plan k h own kept looked.seen (same_length own.seen of number ∙ kept.eight) (λ u. (look_at u).0)) (omega arith) (λ u. (look_at u).1);
+        harts = kept_set c s.harts fits.harts h looked in_eight (seen_kept plan k h own kept looked.seen (length-set own.seen of number ∙ kept.eight) (λ u. (look_at u).0)) (omega arith) (λ u. (look_at u).1);
         words = fits.words;
       }
 
       pub see_made : core_of (record s { harts = slice_set s.harts h looked }) ≡ after_see core h of
       see_made = core_set s.harts s.words.items h looked in_list ∙ (λ i. record {
-        written = put_own core.written h own.written refl i;
-        progress = put_own core.progress h own.progress refl i;
+        written = put_same core.written h own.written refl i;
+        progress = put_same core.progress h own.progress refl i;
         seen = put core.seen h (number_set own.seen of number of_low i);
         word = core.word;
       })
@@ -86,17 +87,17 @@ module _ (plan : Planned) (k : Known (course_of plan)) where
 
     pub advertise_made : (upto met : ℕ) → core_of (record s { harts = slice_set s.harts h (record own { progress = upto; met = met }) }) ≡ after_advertise core h upto
     advertise_made upto met = core_set s.harts s.words.items h (record own { progress = upto; met = met }) in_list ∙ (λ i. record {
-      written = put_own core.written h own.written refl i;
+      written = put_same core.written h own.written refl i;
       progress = put core.progress h upto;
-      seen = put_own core.seen h (slice_index own.seen) refl i;
+      seen = put_same core.seen h (slice_index own.seen) refl i;
       word = core.word;
     })
 
     pub read_made : (met : ℕ) → core_of (record s { harts = slice_set s.harts h (record own { met = met }) }) ≡ core
     read_made met = core_set s.harts s.words.items h (record own { met = met }) in_list ∙ (λ i. record {
-      written = put_own core.written h own.written refl i;
-      progress = put_own core.progress h own.progress refl i;
-      seen = put_own core.seen h (slice_index own.seen) refl i;
+      written = put_same core.written h own.written refl i;
+      progress = put_same core.progress h own.progress refl i;
+      seen = put_same core.seen h (slice_index own.seen) refl i;
       word = core.word;
     })
 
@@ -104,8 +105,8 @@ module _ (plan : Planned) (k : Known (course_of plan)) where
         → core_in (slice_set s.harts h (record own { written = own.written + 1; next = to; met = met })) ws ≡ record core { written = put core.written h (own.written + 1); word = put core.word w v }
     write_made to met w v ws is inside = core_set s.harts ws h (record own { written = own.written + 1; next = to; met = met }) in_list ∙ (λ i. record {
       written = put core.written h (own.written + 1);
-      progress = put_own core.progress h own.progress refl i;
-      seen = put_own core.seen h (slice_index own.seen) refl i;
+      progress = put_same core.progress h own.progress refl i;
+      seen = put_same core.seen h (slice_index own.seen) refl i;
       word = (ap slice_index is ∙ number_set s.words.items w v inside) i;
     })
 

@@ -32,7 +32,7 @@ module _ (ops : ℕ → ℕ → List Op) (g : List Line) where
   abbrev tail : ℕ → List Line → List Operation
   tail i rest = operations_from ops g (suc i) rest
 
-  -- an operation of the list stands in the list of its record
+  -- an operation of the list is in the list of its record
   is_one : (i : ℕ) (rest : List Line) (p : ℕ) (a : Operation) → get_elem? (operations_from ops g i rest) p ≡ some a → (o : Op) × (slice_get (ops a.hart a.number) a.op ≡ Some o) × (a ≡ operation_of a.hart a.number a.op o)
   is_one i [] p a e = absurd (some-ne-none a (sym e))
   is_one i (x ∷ rest) p a e = ⊎_elim
@@ -45,11 +45,11 @@ module _ (ops : ℕ → ℕ → List Op) (g : List Line) where
       (λ (r : (q : ℕ) × (p ≡ length (head i x) + q) × (get_elem? (tail i rest) q ≡ some a)). is_one (suc i) rest r.0 a r.2)
       (at_append (head i x) (tail i rest) p a e)
 
-  -- an operation of a record's list stands in the list
-  stands_in : (i : ℕ) (rest : List Line) (k j : ℕ) (x : Line) → get_elem? rest k ≡ some x → j ≡ i + k → (y : ℕ) (o : Op) → slice_get (ops (hart_of x.what) (records_before (hart_of x.what) g j + 1)) y ≡ Some o
+  -- an operation of a record's list is in the list
+  is_listed : (i : ℕ) (rest : List Line) (k j : ℕ) (x : Line) → get_elem? rest k ≡ some x → j ≡ i + k → (y : ℕ) (o : Op) → slice_get (ops (hart_of x.what) (records_before (hart_of x.what) g j + 1)) y ≡ Some o
       → (p : ℕ) × (get_elem? (operations_from ops g i rest) p ≡ some (operation_of (hart_of x.what) (records_before (hart_of x.what) g j + 1) y o))
-  stands_in i [] k j x e s y o f = absurd (some-ne-none x (sym e))
-  stands_in i (z ∷ rest) zero j x e s y o f =
+  is_listed i [] k j x e s y o f = absurd (some-ne-none x (sym e))
+  is_listed i (z ∷ rest) zero j x e s y o f =
       let same : x ≡ z = sym (some-injective z x e) in
       let here : j ≡ i = omega arith in
       let h : ℕ = hart_of z.what in
@@ -58,8 +58,8 @@ module _ (ops : ℕ → ℕ → List Op) (g : List Line) where
         subst (λ (w : Line × ℕ). get_elem? (head i z ++ tail i rest) y ≡ some (operation_of (hart_of w.0.what) (records_before (hart_of w.0.what) g w.1 + 1) y o)) (λ d. (sym same d, sym here d))
             (at_left (head i z) (tail i rest) y (operation_of h m y o) (tag_at h m 0 (ops h m) y y o (subst (λ (w : Line × ℕ). slice_get (ops (hart_of w.0.what) (records_before (hart_of w.0.what) g w.1 + 1)) y ≡ Some o) (λ d. (same d, here d)) f) (omega arith))),
       )
-  stands_in i (z ∷ rest) (suc k) j x e s y o f =
-      let t = stands_in (suc i) rest k j x e (omega arith) y o f in
+  is_listed i (z ∷ rest) (suc k) j x e s y o f =
+      let t = is_listed (suc i) rest k j x e (omega arith) y o f in
       (length (head i z) + t.0, at_right (head i z) (tail i rest) (length (head i z) + t.0) t.0 (operation_of (hart_of x.what) (records_before (hart_of x.what) g j + 1) y o) refl t.1)
 
 module _ (plan : Planned) where
@@ -73,7 +73,7 @@ module _ (plan : Planned) where
       let P : ℕ × ℕ → Type 0 = λ z. (p : ℕ) × At (course_of plan) p (operation_of z.0 z.1 y o) in
       let number : records_before (hart_of t.1.what) plan.log.lines t.0 + 1 ≡ m = ap (λ (z : ℕ). records_before z plan.log.lines t.0 + 1) is.hart ∙ is.number in
       subst P (λ d. (is.hart d, number d))
-      (stands_in plan.operations plan.log.lines 0 plan.log.lines t.0 t.0 t.1 is.at (omega arith) y o (subst (λ (z : ℕ × ℕ). slice_get (plan.operations z.0 z.1) y ≡ Some o) (λ d. (sym is.hart d, sym number d)) f))
+      (is_listed plan.operations plan.log.lines 0 plan.log.lines t.0 t.0 t.1 is.at (omega arith) y o (subst (λ (z : ℕ × ℕ). slice_get (plan.operations z.0 z.1) y ≡ Some o) (λ d. (sym is.hart d, sym number d)) f))
 
   pub op_none : (h m y : ℕ) → slice_get (plan.operations h m) y ≡ None → (p : ℕ) (a : Operation) → At (course_of plan) p a → IsName h m y a → ⊥
   op_none h m y f p a at name =

@@ -1,23 +1,21 @@
 -- Places in the stream of a hart, its writes before them, and the executed order.
-use Rattle.std.proofs.Common.{◌≡◌, ℕ, ◌+◌, ◌<◌, ◌≤◌, Bool, true, false, ◌⊎◌, List, [], ◌∷◌, refl, sym, ap, ◌∙◌, subst, inl, inr, ⊎_elim, arith, lt_of_not-le, if◌then◌else◌}
+use Rattle.std.proofs.Common.{◌≡◌, ℕ, ◌+◌, ◌<◌, ◌≤◌, Bool, true, false, ◌⊎◌, List, [], ◌∷◌, refl, sym, ap, ◌∙◌, subst, inl, inr, ⊎_elim, arith, lt_of_not-le}
+use Rattle.std.specs.List.{count_by}
 use mathlib.Core.Option.{some-injective}
 use mathlib.Core.Logic.{dite}
 use native.Mathlib.Decide.{ℕ_discrete, dec_le}
 use Rattle.order_core.specs.declared.course.Course.{Course}
 use Rattle.order_core.specs.declared.course.Operation.{Operation}
 use Rattle.order_core.specs.Course.{At, rank, is_write_of}
-use Rattle.order_core.specs.Counts.{count_if, is_before, writes_before}
+use Rattle.order_core.specs.Counts.{is_before, writes_before}
 use Rattle.order_core.specs.Lawful.{InOrder}
 use Rattle.order_core.specs.inner.Places.{place, operation_place}
-use Rattle.order_core.proofs.Counts.{before_true, before_false, rank_by_name, next_write}
-
-abbrev bit : Bool → ℕ
-bit b = if b then 1 else 0
+use Rattle.order_core.proofs.Counts.{bit, count_cons, before_true, before_false, rank_by_name, next_write}
 
 -- a test that passes where another does counts no less
-count_less : (f g : Operation → Bool) (xs : List Operation) → ((a : Operation) → bit (f a) ≤ bit (g a)) → count_if f xs ≤ count_if g xs
+count_less : (f g : Operation → Bool) (xs : List Operation) → ((a : Operation) → bit (f a) ≤ bit (g a)) → count_by f xs ≤ count_by g xs
 count_less f g [] h = omega arith
-count_less f g (x ∷ xs) h = let a : bit (f x) ≤ bit (g x) = h x in let b : count_if f xs ≤ count_if g xs = count_less f g xs h in omega arith
+count_less f g (x ∷ xs) h = let c = count_cons f x xs in let d = count_cons g x xs in let a : bit (f x) ≤ bit (g x) = h x in let b : count_by f xs ≤ count_by g xs = count_less f g xs h in omega arith
 
 bit_true : (b : Bool) → bit b ≤ 1
 bit_true true = omega arith
@@ -35,7 +33,7 @@ below_or_not n i a = dite (dec_le n a.number)
     (λ ne. inr (⊎_elim (λ (t : a.number < n). omega arith) (λ (t : (a.number ≡ n) × (a.op < i)). ne t.0))))
     (λ l. inl (inl (lt_of_not-le l)))
 
--- no more writes stand before an earlier place
+-- no more writes are before an earlier place
 pub before_up : (c : Course) (h n i m j : ℕ) → i ≤ 4294967295 → j ≤ 4294967295 → place n i ≤ place m j → writes_before c h n i ≤ writes_before c h m j
 before_up c h n i m j small short le = count_less (is_before h n i) (is_before h m j) c.operations (λ a. ⊎_elim
     (λ (t : Below n i a). let x : bit (is_before h n i a) ≡ bit (is_write_of h a) = ap bit (before_true h n i a t) in

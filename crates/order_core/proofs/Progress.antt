@@ -29,7 +29,7 @@ pub data Mover (c : Course) (k : Core) : Type 0 where
   tells_more : (h m : ℕ) → h < c.log.harts → k.progress h < m → IsPassed c (k.written h) (k.seen h) h m → Mover c k
   writes_more : (h p : ℕ) (a : Operation) → MayWrite c h (k.written h) (k.seen h) p a → Mover c k
 
--- a list is searched for an element with a fact of it and of its place, where the first stands at place k
+-- a list is searched for an element with a fact of it and of its place, where the first is at place k
 module _ {A : Type 0} (P Q : ℕ → A → Type 0) where
   abbrev Each : List A → ℕ → Type 0
   Each xs k = (i j : ℕ) (a : A) → get_elem? xs i ≡ some a → j ≡ k + i → P j a
@@ -98,7 +98,7 @@ module _ (c : Course) (law : IsLawful c) where
       let number : records_before h g i + 1 ≡ m = is.number in
       omega arith
 
-  -- what a record needs stands before it
+  -- what a record needs is before it
   needed_before : (i h m : ℕ) (l : Line) → IsRecord g i h m l → (u n : ℕ) → IsNeed g u n h m → n ≤ records_before u g i
   needed_before i h m l is u n need = source_before c.log.harts g law.log.flow i h m u n l is (need_edge c.log.harts g law.log.flow u n h m need)
 

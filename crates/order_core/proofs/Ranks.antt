@@ -1,6 +1,8 @@
 -- Ranks of writes, and what chosen writes leave in a word.
 use Rattle.std.proofs.Common.{◌≡◌, ◌≢◌, ℕ, zero, suc, ◌+◌, ◌<◌, ◌≤◌, Bool, true, false, ◌&&◌, ltb, eqb, List, [], ◌∷◌, refl, sym, ap, ◌∙◌, subst, arith, eq-eqb, ne_eqb, if◌then◌else◌}
 use Rattle.std.proofs.lemmas.Bool.Decides.{nat_tests}
+use mathlib.Core.Logic.{dite}
+use native.Mathlib.Decide.{ℕ_discrete}
 use mathlib.Core.Option.{some, some-injective, some-ne-none}
 use lib.ListN.{get_elem?}
 use Rattle.order_core.specs.declared.course.Operation.{Operation}
@@ -13,6 +15,13 @@ put_here f h x = ap (λ (b : Bool). if b then x else f h) (eq-eqb h h refl)
 
 pub put_else : {A : Type 0} (f : ℕ → A) (h u : ℕ) (x : A) → u ≢ h → put f h x u ≡ f u
 put_else f h u x n = ap (λ (b : Bool). if b then x else f u) (ne_eqb u h n)
+
+-- f with its own value at h is f
+pub put_same : {A : Type 0} (f : ℕ → A) (h : ℕ) (x : A) → x ≡ f h → put f h x ≡ f
+put_same f h x e = λ i u. at u i
+  where
+    at : (u : ℕ) → put f h x u ≡ f u
+    at u = dite (ℕ_discrete u h) (λ s. subst (λ (z : ℕ). put f h x z ≡ f z) (sym s) (put_here f h x ∙ e)) (λ n. put_else f h u x n)
 
 pub same_test : (a b c d : ℕ) → (a < b → c < d) → (c < d → a < b) → ltb a b ≡ ltb c d
 same_test a b c d f g = grind (arith, nat_tests)

@@ -1,5 +1,6 @@
 -- The harts and the words after one of them is changed.
-use Rattle.std.proofs.Common.{◌≡◌, ◌≢◌, ℕ, zero, suc, ◌<◌, ◌≤◌, List, [], ◌∷◌, length, get_or, slice_index, slice_set, refl, sym, ap, ◌∙◌, subst, arith}
+use Rattle.std.proofs.Common.{◌≡◌, ℕ, ◌<◌, ◌≤◌, List, length, slice_index, slice_set, sym, ap, ◌∙◌, subst, arith}
+use Rattle.std.proofs.lemmas.List.{get_or-set_other, get_or-set_same, length-set}
 use mathlib.Core.Logic.{dite}
 use native.Mathlib.Decide.{ℕ_discrete}
 use Rattle.order_core.specs.declared.course.Course.{Course}
@@ -9,24 +10,6 @@ use Rattle.order_core.specs.States.{hart_in, idle, core_in}
 use Rattle.order_core.specs.inner.Kept.{IsKept, AreKept}
 use Rattle.order_core.proofs.Ranks.{put_here, put_else}
 
--- an element that is there is the same whatever is given for one that is not
-pub any_default : {A : Type 0} (xs : List A) (i : ℕ) (d e : A) → i < length xs → get_or xs i d ≡ get_or xs i e
-any_default [] i d e l = absurd (omega arith)
-any_default (x ∷ xs) zero d e l = refl
-any_default (x ∷ xs) (suc i) d e l = any_default xs i d e (omega arith)
-
-pub set_here : {A : Type 0} (xs : List A) (i : ℕ) (x d : A) → i < length xs → get_or (slice_set xs i x) i d ≡ x
-set_here [] i x d l = absurd (omega arith)
-set_here (y ∷ xs) zero x d l = refl
-set_here (y ∷ xs) (suc i) x d l = set_here xs i x d (omega arith)
-
-pub set_else : {A : Type 0} (xs : List A) (i j : ℕ) (x d : A) → j ≢ i → get_or (slice_set xs i x) j d ≡ get_or xs j d
-set_else [] i j x d ne = refl
-set_else (y ∷ xs) zero zero x d ne = absurd (ne refl)
-set_else (y ∷ xs) zero (suc j) x d ne = refl
-set_else (y ∷ xs) (suc i) zero x d ne = refl
-set_else (y ∷ xs) (suc i) (suc j) x d ne = set_else xs i j x d (λ e. ne (let s : j ≡ i = e in omega arith))
-
 -- what is read of each hart, after one is set
 pub read_set : {A : Type 0} (f : HartState → A) (harts : List HartState) (g : ℕ) (x : HartState) → g < length harts → (λ h. f (hart_in (slice_set harts g x) h)) ≡ put (λ h. f (hart_in harts h)) g (f x)
 read_set f harts g x low = λ i h. at h i
@@ -34,23 +17,16 @@ read_set f harts g x low = λ i h. at h i
     at : (h : ℕ) → f (hart_in (slice_set harts g x) h) ≡ put (λ u. f (hart_in harts u)) g (f x) h
     at h = dite (ℕ_discrete h g)
         (λ e. subst (λ (z : ℕ). f (hart_in (slice_set harts g x) z) ≡ put (λ u. f (hart_in harts u)) g (f x) z) (sym e)
-        (ap f (set_here harts g x idle low) ∙ sym (put_here (λ u. f (hart_in harts u)) g (f x))))
-        (λ ne. ap f (set_else harts g h x idle ne) ∙ sym (put_else (λ u. f (hart_in harts u)) g h (f x) ne))
+        (ap f (get_or-set_same harts g x idle low) ∙ sym (put_here (λ u. f (hart_in harts u)) g (f x))))
+        (λ ne. ap f (get_or-set_other harts g h x idle ne) ∙ sym (put_else (λ u. f (hart_in harts u)) g h (f x) ne))
 
 pub number_set : (xs : List ℕ) (i n : ℕ) → i < length xs → slice_index (slice_set xs i n) ≡ put (slice_index xs) i n
 number_set xs i n low = λ d u. at u d
   where
     at : (u : ℕ) → slice_index (slice_set xs i n) u ≡ put (slice_index xs) i n u
     at u = dite (ℕ_discrete u i)
-        (λ e. subst (λ (z : ℕ). slice_index (slice_set xs i n) z ≡ put (slice_index xs) i n z) (sym e) (set_here xs i n 0 low ∙ sym (put_here (slice_index xs) i n)))
-        (λ ne. set_else xs i u n 0 ne ∙ sym (put_else (slice_index xs) i u n ne))
-
--- f with its own value at h is f
-pub put_own : {A : Type 0} (f : ℕ → A) (h : ℕ) (x : A) → x ≡ f h → put f h x ≡ f
-put_own f h x e = λ i u. at u i
-  where
-    at : (u : ℕ) → put f h x u ≡ f u
-    at u = dite (ℕ_discrete u h) (λ s. subst (λ (z : ℕ). put f h x z ≡ f z) (sym s) (put_here f h x ∙ e)) (λ n. put_else f h u x n)
+        (λ e. subst (λ (z : ℕ). slice_index (slice_set xs i n) z ≡ put (slice_index xs) i n z) (sym e) (get_or-set_same xs i n 0 low ∙ sym (put_here (slice_index xs) i n)))
+        (λ ne. get_or-set_other xs i u n 0 ne ∙ sym (put_else (slice_index xs) i u n ne))
 
 -- the core's state after hart g is set
 pub core_set : (harts : List HartState) (words : List ℕ) (g : ℕ) (x : HartState) → g < length harts
@@ -67,11 +43,6 @@ core_set harts words g x low = λ i. record {
   word = slice_index words;
 }
 
-pub same_length : {A : Type 0} (xs : List A) (i : ℕ) (x : A) → length (slice_set xs i x) ≡ length xs
-same_length [] i x = refl
-same_length (y ∷ xs) zero x = refl
-same_length (y ∷ xs) (suc i) x = ap suc (same_length xs i x)
-
 module _ (c : Course) (harts : List HartState) (are : AreKept c harts) (g : ℕ) (x : HartState) (low : g < 8) (kept : IsKept c g x) where
   in_list : g < length harts
   in_list = let e : length harts ≡ 8 = are.eight in omega arith
@@ -79,21 +50,21 @@ module _ (c : Course) (harts : List HartState) (are : AreKept c harts) (g : ℕ)
   -- what is kept after hart g is set, where its progress word does not fall and it has seen no more than there is
   pub kept_set : (hart_in harts g).progress ≤ x.progress → ((u : ℕ) → slice_index x.seen u ≤ (hart_in harts u).progress) → AreKept c (slice_set harts g x)
   kept_set up below = record {
-    eight = same_length harts g x ∙ are.eight;
+    eight = length-set harts g x ∙ are.eight;
     each = λ h l. dite (ℕ_discrete h g)
-        (λ e. subst (λ (z : ℕ). IsKept c z (hart_in (slice_set harts g x) z)) (sym e) (subst (IsKept c g) (sym (set_here harts g x idle in_list)) kept))
-        (λ ne. subst (IsKept c h) (sym (set_else harts g h x idle ne)) (are.each h l));
+        (λ e. subst (λ (z : ℕ). IsKept c z (hart_in (slice_set harts g x) z)) (sym e) (subst (IsKept c g) (sym (get_or-set_same harts g x idle in_list)) kept))
+        (λ ne. subst (IsKept c h) (sym (get_or-set_other harts g h x idle ne)) (are.each h l));
     seen = λ h u. let r : (hart_in harts u).progress ≤ (hart_in (slice_set harts g x) u).progress = rises u in
         dite (ℕ_discrete h g)
         (λ e. let l : slice_index x.seen u ≤ (hart_in harts u).progress = below u in
         subst (λ (z : ℕ). slice_index (hart_in (slice_set harts g x) z).seen u ≤ (hart_in (slice_set harts g x) u).progress) (sym e)
-        (subst (λ (s : HartState). slice_index s.seen u ≤ (hart_in (slice_set harts g x) u).progress) (sym (set_here harts g x idle in_list)) (omega arith)))
+        (subst (λ (s : HartState). slice_index s.seen u ≤ (hart_in (slice_set harts g x) u).progress) (sym (get_or-set_same harts g x idle in_list)) (omega arith)))
         (λ ne. let l : slice_index (hart_in harts h).seen u ≤ (hart_in harts u).progress = are.seen h u in
-        subst (λ (s : HartState). slice_index s.seen u ≤ (hart_in (slice_set harts g x) u).progress) (sym (set_else harts g h x idle ne)) (omega arith));
+        subst (λ (s : HartState). slice_index s.seen u ≤ (hart_in (slice_set harts g x) u).progress) (sym (get_or-set_other harts g h x idle ne)) (omega arith));
   }
     where
       rises : (u : ℕ) → (hart_in harts u).progress ≤ (hart_in (slice_set harts g x) u).progress
       rises u = dite (ℕ_discrete u g)
           (λ e. subst (λ (z : ℕ). (hart_in harts z).progress ≤ (hart_in (slice_set harts g x) z).progress) (sym e)
-          (subst (λ (s : HartState). (hart_in harts g).progress ≤ s.progress) (sym (set_here harts g x idle in_list)) up))
-          (λ ne. subst (λ (s : HartState). (hart_in harts u).progress ≤ s.progress) (sym (set_else harts g u x idle ne)) (omega arith))
+          (subst (λ (s : HartState). (hart_in harts g).progress ≤ s.progress) (sym (get_or-set_same harts g x idle in_list)) up))
+          (λ ne. subst (λ (s : HartState). (hart_in harts u).progress ≤ s.progress) (sym (get_or-set_other harts g u x idle ne)) (omega arith))

@@ -7,7 +7,7 @@ use Rattle.order_core.specs.Lanes.{Meets}
 use Rattle.order_core.specs.Course.{Planned, At, course_of, operation_of, rank}
 use Rattle.order_core.specs.Core.{Core, IsMet, IsOpen, IsNextWrite, IsPassed, opening_core, after_write}
 use Rattle.order_core.specs.Counts.{writes_before}
-use Rattle.order_core.specs.Turns.{IsAt, HasTurn, IsAtEnd}
+use Rattle.order_core.specs.Turns.{HasComeTo, HasTurn, HasComeToEnd}
 use Rattle.order_core.proofs.Counts.{rank_by_name, next_write, next_read, no_more, next_record, first_record}
 use Rattle.order_core.proofs.Known.{Known}
 use Rattle.order_core.proofs.Named.{op_at, op_none}
@@ -39,14 +39,14 @@ module _ (plan : Planned) (is : Known (course_of plan)) (k : Core) (h m i : ℕ)
   pub may_write : o.write ≡ true → (p : ℕ) × IsNextWrite c k h p a
   may_write w = (there.0, (there.1, w, refl, rank_by_name c (names plan is) (short plan is) h m i there.0 a there.1 (refl, refl, refl) ∙ sym turn.1.writes, turn.1.met))
 
-  pub has_read : o.write ≡ false → IsAt c k h m (i + 1)
+  pub has_read : o.write ≡ false → HasComeTo c k h m (i + 1)
   has_read r = record {
     writes = turn.1.writes ∙ sym (next_read c (names plan is) (short plan is) h m i there.0 a there.1 (refl, refl, refl) r);
     met = turn.1.met;
     above = turn.1.above;
   }
 
-  pub has_written : o.write ≡ true → (n : ℕ) → IsAt c (after_write k a n) h m (i + 1)
+  pub has_written : o.write ≡ true → (n : ℕ) → HasComeTo c (after_write k a n) h m (i + 1)
   has_written w n = record {
     writes = put_here k.written h (k.written h + 1) ∙ (ap (λ (z : ℕ). z + 1) turn.1.writes ∙ sym (next_write c (names plan is) (short plan is) h m i there.0 a there.1 (refl, refl, refl) w));
     met = turn.1.met;
@@ -54,14 +54,14 @@ module _ (plan : Planned) (is : Known (course_of plan)) (k : Core) (h m i : ℕ)
   }
 
 module _ (plan : Planned) (is : Known (course_of plan)) (h : ℕ) where
-  pub first_turn : IsMet (course_of plan) (λ u. 0) h 1 → IsAt (course_of plan) (opening_core (course_of plan)) h 1 0
+  pub first_turn : IsMet (course_of plan) (λ u. 0) h 1 → HasComeTo (course_of plan) (opening_core (course_of plan)) h 1 0
   first_turn met = record {
     writes = sym (first_record (course_of plan) (names plan is) (short plan is) (λ p a at. (is.inside p a at).from_one) h);
     met = met;
     above = omega arith;
   }
 
-  module _ (k : Core) (m i : ℕ) (end : IsAtEnd plan k h m i) where
+  module _ (k : Core) (m i : ℕ) (end : HasComeToEnd plan k h m i) where
     -- its performed writes are those before the next record
     all_written : k.written h ≡ writes_before (course_of plan) h (m + 1) 0
     all_written =
@@ -79,5 +79,5 @@ module _ (plan : Planned) (is : Known (course_of plan)) (h : ℕ) where
           (counted (course_of plan) (names plan is) (short plan is) h (m + 1) 0 (k.written h) p a (omega arith) all_written at own w).1 (omega arith),
     )
 
-    pub next_turn : IsMet (course_of plan) (k.seen h) h (m + 1) → IsAt (course_of plan) k h (m + 1) 0
+    pub next_turn : IsMet (course_of plan) (k.seen h) h (m + 1) → HasComeTo (course_of plan) k h (m + 1) 0
     next_turn met = record { writes = all_written; met = met; above = (let low : k.progress h < m = end.at.above in omega arith) }

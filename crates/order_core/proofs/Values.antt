@@ -1,4 +1,4 @@
--- Where operations are filled from the words as they stand, each read has what the writes before it leave.
+-- Where operations are filled from the words as they are, each read has what the writes before it leave.
 use Rattle.std.proofs.Common.{◌≡◌, ℕ, zero, suc, ◌+◌, ◌<◌, Bool, true, false, ◌&&◌, ltb, eqb, List, [], ◌∷◌, ◌++◌, refl, sym, ap, ◌∙◌, subst, arith, eq-eqb, lt-ltb, le-ltb, if◌then◌else◌}
 use mathlib.Core.Option.{some, some-injective, some-ne-none}
 use lib.ListN.{get_elem?}

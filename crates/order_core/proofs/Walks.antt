@@ -66,7 +66,7 @@ module _ (plan : Planned) (k : Known (course_of plan)) where
     write_there (Some o) w e says f = let t = op_at plan h n i o from low (sym e) in (t.0, operation_of h n i o, t.1, (refl, refl, refl), sym says ∙ f)
 
     module _ (read : Op) (start : ℕ) where
-      -- what clashes stands there or before
+      -- what clashes is there or before
       pub clash_here : (found : Option Op) → start ≤ place n i → (end : ℕ) → place n i < end → found ≡ slice_get (plan.operations h n) i → ClashesIf found read → ClashesBetween c h read start end
       clash_here None low end high e clash = absurd clash
       clash_here (Some o) before end high e clash =

@@ -13,7 +13,7 @@ use Rattle.order_core.specs.Lawful.{IsLawful}
 use Rattle.order_core.specs.Core.{Core, done_by, IsConsistent, IsFinished, IsOpen, MayRead, MayWrite, put, after_see, after_advertise, after_write, opening_core}
 use Rattle.order_core.specs.Runs.{Makes, Performs, Runs, IsReached, MovesAlong, LeavesRead, StaysOpen, most_moves}
 use Rattle.order_core.specs.Outcomes.{HasMove}
-use Rattle.order_core.proofs.Ranks.{put_here, put_else, left_same}
+use Rattle.order_core.proofs.Ranks.{put_here, put_else, put_same, left_same}
 use Rattle.order_core.proofs.Keeps.{reads, writes, advertises, looks, opens}
 use Rattle.order_core.proofs.Words.{landed, lands}
 use Rattle.order_core.proofs.Progress.{Mover, sees_more, tells_more, writes_more, below_or_one, can_move, read_after_see, read_after_write}
@@ -150,13 +150,6 @@ module _ (c : Course) (law : IsLawful c) where
       (λ (t : (h : ℕ) × (h < c.log.harts) × (k.progress h < length_of c h)). can_move c law k st t.0 t.2)
       (below_or_one (λ h. k.progress h ≡ length_of c h) (λ h. k.progress h < length_of c h) c.log.harts
       (λ h low. let top : k.progress h ≤ length_of c h = (st.1.passed h).0 in dite (ℕ_discrete (k.progress h) (length_of c h)) inl (λ n. inr (let o : k.progress h ≡ length_of c h → ⊥ = n in omega arith)))))
-
-  -- f with its own value at h is f
-  pub put_same : {A : Type 0} (f : ℕ → A) (h : ℕ) (x : A) → x ≡ f h → put f h x ≡ f
-  put_same f h x e = λ i u. at u i
-    where
-      at : (u : ℕ) → put f h x u ≡ f u
-      at u = dite (ℕ_discrete u h) (λ s. subst (λ (z : ℕ). put f h x z ≡ f z) (sym s) (put_here f h x ∙ e)) (λ n. put_else f h u x n)
 
   raises : (h : ℕ) (k : Core) (s : Act) (k' : Core) → IsConsistent c k → Makes c k h s k' → k' ≢ k → height c k < height c k'
   raises h k (See of) k' st m ne = subst (λ (z : Core). height c k < height c z) (sym m.1)

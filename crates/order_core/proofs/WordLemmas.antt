@@ -1,5 +1,5 @@
 -- The first elements of a list, and one more.
-use Rattle.std.proofs.Common.{◌≡◌, ℕ, zero, suc, ◌+◌, ◌≤◌, List, [], ◌∷◌, ◌++◌, length, take, Some, None, slice_get, refl, ap, ◌∙◌, arith}
+use Rattle.std.proofs.Common.{◌≡◌, ℕ, zero, suc, ◌+◌, List, [], ◌∷◌, ◌++◌, take, Some, None, slice_get, ap, ◌∙◌, arith}
 
 take_next : {A : Type 0} (xs : List A) (i : ℕ) (x : A) → slice_get xs i ≡ Some x → take i xs ++ x ∷ [] ≡ take (suc i) xs
 take_next [] i x e = absurd (let f : None ≡ Some x = e in cc)
@@ -8,9 +8,3 @@ take_next (y ∷ xs) (suc i) x e = ap (λ zs. y ∷ zs) (take_next xs i x e)
 
 pub take_more : {A : Type 0} (xs : List A) (i : ℕ) (x : A) → slice_get xs i ≡ Some x → take i xs ++ x ∷ [] ≡ take (i + 1) xs
 take_more xs i x e = take_next xs i x e ∙ (let s : suc i ≡ i + 1 = omega arith in ap (λ (z : ℕ). take z xs) s)
-
-pub take_all : {A : Type 0} (xs : List A) (i : ℕ) → length xs ≤ i → take i xs ≡ xs
-take_all [] zero l = refl
-take_all [] (suc i) l = refl
-take_all (x ∷ xs) zero l = absurd (omega arith)
-take_all (x ∷ xs) (suc i) l = ap (λ zs. x ∷ zs) (take_all xs i (omega arith))

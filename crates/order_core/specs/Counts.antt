@@ -1,13 +1,9 @@
 -- The writes of a hart, counted by the names of its operations.
-use Rattle.std.specs.Prelude.{ℕ, ◌+◌, Bool, ◌&&◌, ◌||◌, nat_lt, ◌==◌, List, [], ◌∷◌, if◌then◌else◌}
+use Rattle.std.specs.Prelude.{ℕ, Bool, ◌&&◌, ◌||◌, nat_lt, ◌==◌}
+use Rattle.std.specs.List.{count_by}
 use Rattle.order_core.specs.declared.course.Course.{Course}
 use Rattle.order_core.specs.declared.course.Operation.{Operation}
 use Rattle.order_core.specs.Course.{is_write_of}
-
--- how many elements pass a test
-abbrev pub count_if : (Operation → Bool) → List Operation → ℕ
-count_if f [] = 0
-count_if f (a ∷ rest) = (if f a then 1 else 0) + count_if f rest
 
 -- a write of hart h before its operation i of record n
 abbrev pub is_before : ℕ → ℕ → ℕ → Operation → Bool
@@ -15,4 +11,4 @@ is_before h n i a = is_write_of h a && (nat_lt a.number n || (a.number == n && n
 
 -- how many writes hart h has before its operation i of record n
 abbrev pub writes_before : Course → ℕ → ℕ → ℕ → ℕ
-writes_before c h n i = count_if (is_before h n i) c.operations
+writes_before c h n i = count_by (is_before h n i) c.operations

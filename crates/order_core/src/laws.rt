@@ -9,14 +9,14 @@ ghost use Rattle.order_core.specs.declared.course.Operation.{Operation};
 ghost use Rattle.order_core.specs.declared.steps.Act.{Act};
 ghost use Rattle.order_core.specs.declared.steps.CoreStep.{CoreStep};
 ghost use Rattle.order_core.specs.Lanes.{lane, Lands};
-ghost use Rattle.order_core.specs.Course.{Planned, course_of, operation_of, last_lane, length_of};
+ghost use Rattle.order_core.specs.Course.{Planned, course_of, operation_of, last_lane, length_of, writes_of};
 ghost use Rattle.order_core.specs.Lawful.{IsLawful, IsLawfulPlan, HasValues};
 ghost use Rattle.order_core.specs.Core.{Core, opening_core, after_write, IsMet, IsPassed, IsCursor};
 ghost use Rattle.order_core.specs.Core.{IsConsistent, IsOpen, IsNextWrite, IsFinished};
 ghost use Rattle.order_core.specs.Runs.{Makes, IsReached};
 ghost use Rattle.order_core.specs.Waits.{WaitsFor};
 ghost use Rattle.order_core.specs.Freed.{HasEnded, after_free};
-ghost use Rattle.order_core.specs.Turns.{HasTurn, IsAt, IsAtEnd};
+ghost use Rattle.order_core.specs.Turns.{HasTurn, HasComeTo, HasComeToEnd};
 ghost use Rattle.order_core.specs.Outcomes.{ReadsFindValues, WritesFindLanes, ReadsStayOpen, HasLastWords};
 ghost use Rattle.order_core.specs.Outcomes.{HasMove, HasFewMoves};
 ghost use Rattle.order_core.specs.Shapes.{Shape};
@@ -48,19 +48,19 @@ pub fn open_reads()
 /// the next one. At the end of a record it has passed the record, and has come to the next one where its needs are met.
 pub fn operations_in_turn()
     ensures first { (plan : Planned) → ∥ IsLawful (course_of plan) ∥₁ → (h : ℕ) → IsMet (course_of plan) (λ u. 0) h 1 →
-        IsAt (course_of plan) (opening_core (course_of plan)) h 1 0 }
+        HasComeTo (course_of plan) (opening_core (course_of plan)) h 1 0 }
     ensures write { (plan : Planned) → ∥ IsLawful (course_of plan) ∥₁ → (k : Core) (h m i : ℕ) (o : Op) →
         HasTurn plan k h m i o → o.write ≡ true →
         (p : ℕ) × IsNextWrite (course_of plan) k h p (operation_of h m i o) }
     ensures after_read { (plan : Planned) → ∥ IsLawful (course_of plan) ∥₁ → (k : Core) (h m i : ℕ) (o : Op) →
-        HasTurn plan k h m i o → o.write ≡ false → IsAt (course_of plan) k h m (i + 1) }
+        HasTurn plan k h m i o → o.write ≡ false → HasComeTo (course_of plan) k h m (i + 1) }
     ensures after_write { (plan : Planned) → ∥ IsLawful (course_of plan) ∥₁ → (k : Core) (h m i : ℕ) (o : Op) →
         HasTurn plan k h m i o → o.write ≡ true → (n : ℕ) →
-        IsAt (course_of plan) (after_write k (operation_of h m i o) n) h m (i + 1) }
+        HasComeTo (course_of plan) (after_write k (operation_of h m i o) n) h m (i + 1) }
     ensures passed { (plan : Planned) → ∥ IsLawful (course_of plan) ∥₁ → (k : Core) (h m i : ℕ) →
-        IsAtEnd plan k h m i → IsPassed (course_of plan) (k.written h) (k.seen h) h m }
+        HasComeToEnd plan k h m i → IsPassed (course_of plan) (k.written h) (k.seen h) h m }
     ensures next { (plan : Planned) → ∥ IsLawful (course_of plan) ∥₁ → (k : Core) (h m i : ℕ) →
-        IsAtEnd plan k h m i → IsMet (course_of plan) (k.seen h) h (m + 1) → IsAt (course_of plan) k h (m + 1) 0 }
+        HasComeToEnd plan k h m i → IsMet (course_of plan) (k.seen h) h (m + 1) → HasComeTo (course_of plan) k h (m + 1) 0 }
 {}
 
 /// In each consistent state that is not finished some hart may make a step that changes it. In a run no more steps that
@@ -81,12 +81,14 @@ pub fn waiting_harts()
         ((u need : ℕ) → WaitsFor c k h u need → ⊥) → IsMet c (k.seen h) h (k.progress h + 1) }
 {}
 
-/// In a consistent state each need of a hart that has advertised its last record is at most the progress word of the
-/// hart that it names. The state stays consistent where the hart then counts as one that has performed all its writes
-/// and seen each progress word, as it does once its seat is freed.
+/// A hart that has advertised its last record may free its seat, and then counts as one that has performed all its writes
+/// and seen each progress word. It has passed all its records so, each need of them is at most the progress word of the
+/// hart that it names, and the state stays consistent.
 pub fn freed_harts()
     ensures needs { (c : Course) (k : Core) → IsConsistent c k → (h : ℕ) → HasEnded c k h → (u n m : ℕ) →
         IsNeed c.log.lines u n h m → m ≤ length_of c h → n ≤ k.progress u }
+    ensures passed { (c : Course) (k : Core) → IsConsistent c k → (h : ℕ) → HasEnded c k h →
+        IsPassed c (writes_of c h) k.progress h (length_of c h) }
     ensures freed { (c : Course) → ∥ IsLawful c ∥₁ → (k : Core) → IsConsistent c k → (h : ℕ) → HasEnded c k h →
         IsConsistent c (after_free c k h) }
 {}

@@ -5,7 +5,8 @@
 //! laid out as a course: one list of all operations in executed order. The core's state is counts alone: how many of
 //! its writes each hart has performed, how far its progress word is, and what it has seen of the others'. A write is
 //! performed where its rank among its hart's writes is below that count, so what a word holds is what the performed
-//! writes leave there, lane by lane. Everything rests on one fact: where the needs of a record were seen and a path
+//! writes leave there, lane by lane. A state is consistent where it is closed and its progress is sound; the laws speak
+//! of every such state, however it came about. They rest on one fact: where the needs of a record were seen and a path
 //! leads to it from another hart, that hart's progress word is not below the path's beginning.
 //!
 //! `run_core` runs a list of steps. For each hart it keeps the place of its next write and how many records have needs

@@ -12,7 +12,7 @@ ghost use Rattle.order_core.specs.inner.Kept.{Fits, IsMade, MayMake};
 use crate::course::Op;
 use crate::lanes::put_lanes;
 use crate::needs::met_up_to;
-use crate::place::{Place, is_earlier, is_same};
+use crate::place::Place;
 use crate::plan::PlanOps;
 use crate::seek::{has_clash, seek};
 use crate::state::{CoreState, HartState};
@@ -88,7 +88,7 @@ fn write<P: PlanOps>(plan: &P, state: &mut CoreState, hart: u8, at: Place, op: O
         MayMake (course_of (P.planned plan.now)) state.old hart (Perform at.number at.op) → ⊥ }
 {
     let own = state.harts[hart as usize];
-    if !is_same(at, own.next) {
+    if !at.is_same(own.next) {
         return false;
     }
     let met = met_up_to(plan, hart, &own.seen, own.met, at.number);
@@ -113,7 +113,7 @@ fn write<P: PlanOps>(plan: &P, state: &mut CoreState, hart: u8, at: Place, op: O
     true
 }
 
-// Whether a write that clashes with the hart's read stands between the read and the next write.
+// Whether a write that clashes with the hart's read is between the read and the next write.
 fn is_overtaken<P: PlanOps>(plan: &P, hart: u8, next: Place, at: Place, read: Op) -> bool
     requires hart { hart < (P.planned plan.now).log.harts }
     requires next_from { 1 ≤ next.number }
@@ -123,7 +123,7 @@ fn is_overtaken<P: PlanOps>(plan: &P, hart: u8, next: Place, at: Place, read: Op
     requires lanes { read.lanes ≤ 15 }
     ensures { IsTrue result ↔ ClashesAround (course_of (P.planned plan.now)) hart read (place_of at) (place_of next) }
 {
-    if is_earlier(at, next) {
+    if at.is_earlier(next) {
         return has_clash(plan, hart, at, next, read);
     }
     has_clash(plan, hart, next, at, read)

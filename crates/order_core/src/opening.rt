@@ -41,13 +41,7 @@ pub(crate) fn opening_harts<P: PlanOps>(plan: &P) -> [HartState; 8]
     let mut harts = [idle; 8];
     for hart in 0..plan.harts() {
         let next = seek(plan, hart, first);
-        harts[hart as usize] = HartState {
-            progress: 0,
-            written: 0,
-            next,
-            met: 0,
-            seen: [0; 8],
-        };
+        harts[hart as usize] = HartState { next, ..idle };
     }
     harts
 }

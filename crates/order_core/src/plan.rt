@@ -13,12 +13,15 @@ pub trait Plan {
     /// the sequential run from these words.
     ghost planned: { Self → Planned };
 
+    /// How many harts the run has.
     fn harts(&self) -> u8
         ensures { result ≡ (planned self.now).log.harts };
 
+    /// How many bytes a block has by which the run's accesses are ordered.
     fn block(&self) -> u8
         ensures { result ≡ (planned self.now).log.block };
 
+    /// The plan is lawful.
     ghost lawful: { (x : Self) → ∥ IsLawful (course_of (planned x)) ∥₁ };
 }
 

@@ -6,7 +6,7 @@ ghost use Rattle.order_core.specs.inner.Places.{place_of, end_of, HasWriteAt, Cl
 
 use crate::course::Op;
 use crate::lanes::is_clashing;
-use crate::place::{Place, is_earlier};
+use crate::place::Place;
 use crate::plan::PlanOps;
 
 // Whether the operation is a write.
@@ -71,7 +71,7 @@ pub(crate) fn has_clash<P: PlanOps>(plan: &P, hart: u8, from: Place, to: Place, 
     ensures { IsTrue result ↔ ClashesBetween (course_of (P.planned plan.now)) hart read (place_of from) (place_of to) }
 {
     let mut at = from;
-    while is_earlier(at, to) {
+    while at.is_earlier(to) {
         let found = plan.op(hart, at.number, at.op);
         if is_clashing(found, read) {
             return true;

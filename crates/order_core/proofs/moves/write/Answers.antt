@@ -1,4 +1,5 @@
 use Rattle.std.proofs.Common.{rules, ◌≡◌, ℕ, ◌+◌, ◌<◌, ◌≤◌, IsTrue, slice_index, slice_set, length, refl, ◌∙◌, subst, arith}
+use Rattle.std.proofs.lemmas.List.{get_or_default, length-set}
 use Rattle.order_core.specs.declared.course.Course.{Course}
 use Rattle.order_core.specs.declared.state.HartState.{HartState}
 use Rattle.order_core.specs.Course.{course_of, operation_of}
@@ -10,7 +11,7 @@ use Rattle.std.specs.Vec.{vec_len}
 use Rattle.order_core.specs.Lanes.{Lands}
 use Rattle.order_core.proofs.HartLemmas.{written_kept}
 use Rattle.order_core.proofs.MoveLemmas.{kept, in_eight, found, word_inside, op_low, not_next, not_met, written}
-use Rattle.order_core.proofs.StateLemmas.{any_default, kept_set, same_length}
+use Rattle.order_core.proofs.StateLemmas.{kept_set}
 use Rattle.order_core.proofs.moves.write.Goals as goal
 
 pub returns-then-not-is_same-clause-refused : goal.returns-then-not-is_same-clause-refused
@@ -72,7 +73,7 @@ returns-clause-fits g c _ =
           (written_kept (g.P.Plan.planned plan) is c.args.hart own (kept (g.P.Plan.planned plan) is c.args.state.now c.requires.fits c.args.hart c.requires.hart) c.args.at.number c.args.at.op c.met_up_to-met.result there.0 (operation_of c.args.hart c.args.at.number c.args.at.op c.args.op) c.seek.result there.1 (refl, refl, refl) c.requires.is_write same (omega arith)
           c.met_up_to-met.ensures.met c.met_up_to-met.ensures.low c.seek.ensures.from_one c.seek.ensures.within c.seek.ensures.count c.seek.ensures.there)
           (omega arith) (c.requires.fits.harts.seen c.args.hart);
-      words = same_length c.args.state.now.words.items c.args.op.word c.put_lanes.result ∙ c.requires.fits.words;
+      words = length-set c.args.state.now.words.items c.args.op.word c.put_lanes.result ∙ c.requires.fits.words;
     }
 
 pub returns-clause-made : goal.returns-clause-made
@@ -84,6 +85,6 @@ returns-clause-made g c _ =
     let same : place c.args.at.number c.args.at.op ≡ place own.next.number own.next.op = c.is_same.ensures.0 (let f = c.if-not-is_same.false in search rules) in
     let le : c.args.at.number ≤ c.met_up_to-met.result = omega arith in
     let low : c.args.op.word < length c.args.state.now.words.items = word_inside (g.P.Plan.planned plan) is c.args.state.now c.requires.fits c.args.hart c.requires.hart c.args.at.number c.args.at.op c.args.op c.requires.op.from_one c.requires.op.number c.requires.op.op in
-    let word : c.index-word.result.now ≡ slice_index c.args.state.now.words.items c.args.op.word = c.index-word.ensures ∙ any_default c.args.state.now.words.items c.args.op.word c.index-word.result.now 0 low in
+    let word : c.index-word.result.now ≡ slice_index c.args.state.now.words.items c.args.op.word = c.index-word.ensures ∙ get_or_default c.args.state.now.words.items c.args.op.word c.index-word.result.now 0 low in
     written (g.P.Plan.planned plan) is c.args.state.now c.requires.fits c.args.hart c.requires.hart c.args.at.number c.args.at.op c.args.op c.requires.op.from_one c.requires.op.number c.requires.op.op c.requires.is_write c.seek.result c.met_up_to-met.result c.put_lanes.result (slice_set c.args.state.now.words.items c.args.op.word c.put_lanes.result) refl
     (subst (λ (z : ℕ). Lands c.args.op z c.put_lanes.result) word c.put_lanes.ensures) same c.met_up_to-met.ensures.met le

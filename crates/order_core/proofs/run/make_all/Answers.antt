@@ -1,4 +1,5 @@
 use Rattle.std.proofs.Common.{rules, ◌≡◌, ℕ, suc, ◌+◌, ◌<◌, ◌≤◌, ◌^◌, List, length, take, get_or, Some, slice_get, subst, arith}
+use Rattle.std.proofs.lemmas.List.{take_all}
 use Rattle.order_core.specs.declared.course.Course.{Course}
 use Rattle.order_core.specs.Course.{course_of}
 use Rattle.order_core.specs.States.{core_of}
@@ -9,7 +10,6 @@ use Rattle.order_core.specs.Core.{opening_core}
 use Rattle.order_core.specs.Runs.{IsReached}
 use Rattle.order_core.specs.Outcomes.{IsFirstRefused}
 use Rattle.order_core.proofs.RunLemmas.{get_there, run_next, few_writes}
-use Rattle.order_core.proofs.WordLemmas.{take_all}
 use Rattle.order_core.proofs.run.make_all.Goals as goal
 
 pub make-requires-clause-few : goal.make-requires-clause-few
@@ -43,4 +43,4 @@ loop-at-preserved g c =
 pub returns-clause-made : goal.returns-clause-made
 returns-clause-made g c =
     let k : Course = course_of (g.P.Plan.planned c.args.plan.now) in
-    subst (λ (z : List CoreStep). IsReached k z (core_of c.loop-at.state)) (take_all c.args.steps.now c.loop-at.at c.loop-at-test.false) c.loop-at.invariant.1
+    subst (λ (z : List CoreStep). IsReached k z (core_of c.loop-at.state)) (take_all c.loop-at.at c.args.steps.now c.loop-at-test.false) c.loop-at.invariant.1

@@ -31,12 +31,12 @@ fn print_texts(rt: &HostRuntime, what: &str, found: &[u8], wanted: &[u8]) -> Res
     let mut number = 0u32;
     for line in found.split('\n') {
         number = number.saturating_add(1);
-        let other = lines.next();
-        if other != Some(line) {
+        let other = lines.next().unwrap_or("");
+        if line != other {
             println!(rt; "  {what} line {number}: {line:?}, not {other:?}")?;
             return Ok(());
         }
     }
-    println!(rt; "  {what} ends at line {number}, not behind it")?;
+    println!(rt; "  {what} of {} bytes, not {}", found.len(), wanted.len())?;
     Ok(())
 }

@@ -14,8 +14,12 @@ pub struct RowLine<'a> {
 }
 
 impl<'a> RowLine<'a> {
+    ghost use Rattle.std.specs.Prelude.{◌≡◌, ◌++◌, IfOk};
+
     /// What comes after these letters, with which the line begins.
-    pub fn after(&self, letters: &str) -> Result<&'a str> {
+    pub fn after(&self, letters: &str) -> Result<&'a str>
+        ensures { IfOk result (λ rest. self.now.text.now ≡ letters.now ++ rest.now) }
+    {
         let rest = self.text.strip_prefix(letters);
         rest.ok_or_else(|| anyhow!("line {}: no `{letters}`", self.number))
     }

@@ -1,7 +1,7 @@
 //! Texts that are written in lines of rows, and those that have names.
 
 use crate::row::RowLine;
-use anyhow::{Context, Result};
+use anyhow::{Context, Result, ensure};
 use std::alloc::Global;
 use std::collections::BTreeMap;
 
@@ -20,15 +20,7 @@ fn append_hex(alloc: Global, into: &mut Vec<u8>, text: &str) -> Result<()> {
     Ok(())
 }
 
-/// Appends so many times these bytes.
-fn append_times(into: &mut Vec<u8>, piece: &[u8], count: u32) -> Result<()> {
-    for _ in 0..count {
-        into.extend_from_slice(piece)?;
-    }
-    Ok(())
-}
-
-/// Appends what a line says behind its mark: how often, with a line feed or without, or as hex digits, and a text.
+/// Appends what a line says after its mark: how often, with a line feed or without, or as hex digits, and a text.
 pub fn append(alloc: Global, into: &mut Vec<u8>, said: &str) -> Result<()> {
     let (how, text) = said.split_once(' ').unwrap_or((said, ""));
     if how == "x" {
@@ -40,7 +32,8 @@ pub fn append(alloc: Global, into: &mut Vec<u8>, said: &str) -> Result<()> {
     };
     let count = if count.is_empty() { 1 } else { number(count)? };
     let piece = format!(in alloc; "{text}{end}")?;
-    append_times(into, piece.as_bytes(), count)
+    into.extend_from_slice(piece.repeat(alloc, count as usize)?.as_bytes())?;
+    Ok(())
 }
 
 /// The texts of a file of rows, by name.
@@ -63,7 +56,8 @@ impl Texts {
             let said = line.after(">")?;
             append(alloc, &mut bytes, said).context(format_args!("line {}", line.number))?;
         }
-        self.named.insert(String::from_str(alloc, name)?, bytes)?;
+        let before = self.named.insert(String::from_str(alloc, name)?, bytes)?;
+        ensure!(before.is_none(), "a second text {name}");
         Ok(())
     }
 

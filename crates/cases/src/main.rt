@@ -70,12 +70,19 @@ fn file_names(rt: &HostRuntime) -> Result<Vec<String>> {
     Ok(names)
 }
 
-/// Plays a row, and tells how it differs.
-fn play_row(rt: &HostRuntime, file: &str, row: &Row, tally: &mut Tally) -> Result<()> {
-    let found = play(rt.alloc(), row).map_err(|_: NoMemory| AllocError)?;
+/// Plays the row of a block, and tells how it differs.
+fn play_row(
+    rt: &HostRuntime,
+    file: &str,
+    block: &[RowLine<'_>],
+    texts: &Texts,
+    tally: &mut Tally,
+) -> Result<()> {
+    let row = Row::read(rt.alloc(), block, texts)?;
+    let found = play(rt.alloc(), &row).map_err(|_: NoMemory| AllocError)?;
     let as_said = found.is_same(&row.wanted);
     if !as_said {
-        print_difference(rt, file, row, &found)?;
+        print_difference(rt, file, &row, &found)?;
     }
     tally.count(as_said);
     Ok(())
@@ -93,10 +100,11 @@ fn take_block(
     let Some((first, others)) = block.split_first() else {
         return Ok(());
     };
-    match first.text.strip_prefix("text ") {
+    let taken = match first.text.strip_prefix("text ") {
         Some(name) => texts.keep(alloc, name, others),
-        None => play_row(rt, file, &Row::read(alloc, block, texts)?, tally),
-    }
+        None => play_row(rt, file, block, texts, tally),
+    };
+    taken.context(format_args!("the block at line {}", first.number))
 }
 
 /// Plays the rows of a file.

@@ -55,7 +55,7 @@ fn each_instruction_has_its_event(rt: HostRuntime) -> Result<(), Fail> {
     ] {
         assert_eq!(rt; next_kind(&mut machine)?, Some(kind));
     }
-    assert_eq!(rt; next_kind(&mut machine)?, None);
+    assert!(rt; matches!(machine.step()?, StepOut::Halted));
     Ok(())
 }
 

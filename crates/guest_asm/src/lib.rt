@@ -18,7 +18,6 @@ mod fault_tests;
 mod generated_tests;
 mod generator;
 mod laws;
-mod layout;
 mod line;
 mod list;
 #[cfg(test)]

@@ -8,3 +8,4 @@ mod Roomy
 mod Doings
 mod Unique
 mod Happening
+mod Typed

@@ -1,10 +1,9 @@
 -- The pages of a valid job's start can be mapped.
 use Rattle.std.proofs.Common.{◌≡◌, ℕ, ◌+◌, ◌-◌, ◌*◌, ◌<◌, ◌≤◌, Bool, true, false, List, [], ◌∷◌, ◌++◌, length, drop, get_or, take, Option, refl, arith, sym, ap, ◌∙◌, subst}
-use Rattle.guest_mem.specs.Bytes.{is_among, marked}
+use Rattle.pl_base.specs.Pages.{is_among, marked, count_below}
 use Rattle.guest_mem.specs.Image.{PageImage}
-use Rattle.guest_mem.specs.Memory.{mapped, count_below}
-use Rattle.guest_mem.proofs.Among.{not_among_past}
-use Rattle.guest_mem.proofs.Counts.{count_none, count_more}
+use Rattle.guest_mem.specs.Memory.{mapped}
+use Rattle.pl_base.proofs.Pages.{not_among_past, count_failing, count_more}
 use Rattle.pl_event.specs.declared.log.PageRun.{PageRun}
 use Rattle.core_sim.specs.declared.job.Job.{Job}
 use Rattle.core_sim.specs.Mapping.{CanMapRun, CanMapRuns, MapsRun}
@@ -56,7 +55,7 @@ total_of job valid (byte ∷ rest) few = omega (arith, valid.few_words, valid.fe
 can_start : (job : Job) → IsValidJob job → CanMapRuns (λ _. false) (start_runs job)
 can_start job valid =
     can_rising (λ _. false) 0 (start_runs job) (λ page from. refl) (rises_of job valid job.data_bytes valid.few_bytes)
-    (omega (arith, count_none (λ _. false) 4096 (λ k. refl), total_of job valid job.data_bytes valid.few_bytes))
+    (omega (arith, count_failing (λ _. false) 4096 (λ k. refl), total_of job valid job.data_bytes valid.few_bytes))
 
 -- the first run, and behind it the others, as a list's parts
 pub can_text : (job : Job) (none : List (Option PageImage)) (runs : List PageRun) (run : PageRun) → IsValidJob job → mapped none ≡ (λ _. false) →

@@ -1,3 +1,4 @@
+//! That a job has one run, and that its events are valid.
 // What holds of every job's run.
 ghost use Rattle.std.specs.Prelude.{◌≡◌, ◌∷◌, List, length};
 ghost use Rattle.pl_event.specs.Valid.{IsValidEvent};

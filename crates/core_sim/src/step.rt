@@ -1,3 +1,4 @@
+//! One step of a hart with all its effects.
 ghost use Rattle.std.specs.Prelude.{◌≡◌, ◌==◌, ◌%◌, IfOk, OnErr};
 ghost use Rattle.pl_base.specs.Widths.{load_bytes, store_bytes};
 ghost use Rattle.rv_isa.specs.Valid.{IsValid};

@@ -29,6 +29,7 @@ use Rattle.guest_asm.specs.Codes.{lui_of, addi_of}
 use Rattle.guest_asm.specs.Lines.{Meaning, line_of}
 use Rattle.guest_asm.specs.Rules.{is_text, is_data, harts_in, statements_of, start, after, place_of, text_address, labels_of, broken, lacks}
 use Rattle.guest_asm.specs.Faults.{is_far, target, IsFirstPassFault, IsSecondPassFault}
+use Rattle.pl_base.specs.declared.layout.TheConstants.{TEXT_START, MAX_HARTS}
 
 infixl 10 ◌>>=◌
 abbrev pub ◌>>=◌ : {A B E : Type 0} → Result A E → (A → Result B E) → Result B E
@@ -190,7 +191,7 @@ abbrev pub entry_after : List (List ℕ × ℕ) → List ℕ → Placed → List
 entry_after labels entries r = entry_in (unwrap_or (target labels r.named) 0) r.statement entries
 
 abbrev pub entries_of : List (List ℕ × ℕ) → List Placed → List ℕ
-entries_of labels rows = fold (entry_after labels) (replicate 8 0x10000) rows
+entries_of labels rows = fold (entry_after labels) (replicate MAX_HARTS TEXT_START) rows
 
 -- what the lines of a text without a fault mean, or its first fault
 abbrev pub passes : List ℕ → Result (List Meaning) JobFault
@@ -236,11 +237,11 @@ pub record Appends (old new : List ℕ) (emitted : Result (List Cell) JobCause) 
   pub is_appended : new ≡ old ++ words
   pub are_cells : AreCells cells words
 
--- each byte is one, and each hart is one of 8
+-- each byte is one, and each hart is one that there may be
 abbrev pub IsSmall : Statement → Type 0
 IsSmall (statement.Byte numbers) = All (λ n. n.bits < 256) numbers
 IsSmall (statement.List turns) = All (λ t. t.hart.bits < 256) turns
-IsSmall (statement.Entry hart) = hart.bits < 8
+IsSmall (statement.Entry hart) = hart.bits < MAX_HARTS
 IsSmall _ = Unit {0}
 
 abbrev pub IsSmallRow : Row → Type 0

@@ -16,6 +16,7 @@ use Rattle.guest_asm.specs.declared.cause.JobCause.{JobCause}
 use Rattle.guest_asm.specs.declared.cause.JobCause.TheVariants as cause
 use Rattle.guest_asm.specs.Numbers.{is_within}
 use Rattle.guest_asm.specs.Lines.{Meaning}
+use Rattle.pl_base.specs.declared.layout.TheConstants.{TEXT_START, DATA_START, MAX_HARTS, MAX_STEPS, MAX_TEXT_WORDS, MAX_DATA_BYTES}
 
 -- the statements of rows
 abbrev pub statements_in : List Row → List Statement
@@ -30,7 +31,7 @@ is_harts (statement.Harts n) = true
 is_harts _ = false
 
 abbrev pub is_good_harts : Statement → Bool
-is_good_harts (statement.Harts n) = is_within 1 8 n
+is_good_harts (statement.Harts n) = is_within 1 MAX_HARTS n
 is_good_harts _ = false
 
 abbrev pub is_schedule : Statement → Bool
@@ -81,7 +82,7 @@ abbrev pub is_quantum : Number → Bool
 is_quantum n = is_within 1 65535 n
 
 abbrev pub is_turn : ℕ → Turn → Bool
-is_turn harts t = is_hart harts t.hart && is_within 1 250000 t.count
+is_turn harts t = is_hart harts t.hart && is_within 1 MAX_STEPS t.count
 
 abbrev pub are_turns : ℕ → List Turn → Bool
 are_turns harts turns = list_all (is_turn harts) turns
@@ -94,10 +95,10 @@ abbrev pub is_out_of_range : ℕ → Statement → Bool
 is_out_of_range harts (statement.Rr q) = not (is_quantum q)
 is_out_of_range harts (statement.List turns) = not (are_turns harts turns)
 is_out_of_range harts (statement.Seed n q) = n.negative || not (is_quantum q)
-is_out_of_range harts (statement.Steps n) = not (is_within 1 250000 n)
+is_out_of_range harts (statement.Steps n) = not (is_within 1 MAX_STEPS n)
 is_out_of_range harts (statement.Entry hart) = not (is_hart harts hart)
 is_out_of_range harts (statement.Byte numbers) = not (are_bytes numbers)
-is_out_of_range harts (statement.Space n) = not (is_within 0 262144 n)
+is_out_of_range harts (statement.Space n) = not (is_within 0 MAX_DATA_BYTES n)
 is_out_of_range harts _ = false
 
 abbrev pub is_text : Option Section → Bool
@@ -143,7 +144,7 @@ bytes_of s _ = 0
 
 -- more than 16,384 words or 262,144 bytes
 abbrev pub overfills : Place → Statement → Bool
-overfills place s = nat_lt 16384 (place.words + words_of place.section s) || nat_lt 262144 (place.bytes + bytes_of place.section s)
+overfills place s = nat_lt MAX_TEXT_WORDS (place.words + words_of place.section s) || nat_lt MAX_DATA_BYTES (place.bytes + bytes_of place.section s)
 
 -- before the first line
 abbrev pub start : Place
@@ -174,10 +175,10 @@ place_of before = fold after start before
 
 -- text begins at 10000 and data at 100000 hex
 abbrev pub text_address : Place → ℕ
-text_address place = 0x10000 + 4 * place.words
+text_address place = TEXT_START + 4 * place.words
 
 abbrev pub address_in : Place → ℕ
-address_in place = if is_data place.section then 0x100000 + place.bytes else text_address place
+address_in place = if is_data place.section then DATA_START + place.bytes else text_address place
 
 -- the labels that lines define, with their addresses, in order
 abbrev pub label_with : ℕ → Option (List ℕ) → List (List ℕ × ℕ)

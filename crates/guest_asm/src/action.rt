@@ -1,3 +1,4 @@
+//! What a generated hart does.
 ghost use Rattle.std.specs.Prelude.{◌≡◌, ◌<◌, ◌++◌, [], ◌∷◌, OnOk, pos};
 ghost use Rattle.guest_asm.specs.Generated.{add_to, set_to, action_numbered, into_data, into_block, instructions_of};
 

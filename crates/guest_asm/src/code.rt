@@ -1,3 +1,4 @@
+//! Instructions of a text.
 ghost use Rattle.std.specs.Prelude.{◌≡◌, ◌<◌, IfSome, pos};
 ghost use Rattle.std.specs.Option.{option_map};
 ghost use Rattle.rv_isa.specs.Fields.{I, Shift};

@@ -1,3 +1,4 @@
+//! Directives of a text.
 ghost use Rattle.std.specs.Prelude.{◌≡◌, ◌∷◌, map, IfOk, IfSome};
 ghost use Rattle.std.specs.Option.{option_map, option_copied};
 ghost use Rattle.guest_asm.specs.Codes.{texts, code_of};

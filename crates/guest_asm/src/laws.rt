@@ -1,3 +1,4 @@
+//! That a fault is the only one, and what the digits of a listing are.
 // What holds of every text of a job.
 ghost use Rattle.std.specs.Prelude.{◌≡◌, List, ℕ};
 ghost use Rattle.core_sim.specs.declared.job.Job.{Job};

@@ -14,7 +14,6 @@ mod code;
 mod directive;
 mod generator;
 mod laws;
-mod layout;
 mod line;
 mod list;
 mod mnemonic;

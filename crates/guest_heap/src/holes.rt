@@ -1,3 +1,4 @@
+//! Free units of the heap.
 ghost use Rattle.std.specs.Prelude.{◌≡◌, ℕ, ◌+◌, ◌-◌, ◌≤◌, ◌<◌, IfSome, IfNone, MatchBool, OnOk, OnErr, length, vec_len};
 ghost use Rattle.guest_heap.specs.Holes.{IsApart, In, AllIn, Loses, Gains, room, start_of, end_of};
 

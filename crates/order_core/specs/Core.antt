@@ -70,7 +70,8 @@ module _ (c : Course) where
         → Meets a.what b.what → IsDone k.written p a → IsDone k.written q b
     pub reads : (p q : ℕ) (a b : Operation) → At c p a → At c q b → q < p → a.what.write ≡ true → b.what.write ≡ false
         → Meets a.what b.what → a.hart ≢ b.hart → IsDone k.written p a → b.number ≤ k.progress b.hart
-    pub words : (w j : ℕ) → FIRST_WORD ≤ w → w < length c.opening → j < LANES → lane j (k.word w) ≡ left_by c (done_by k.written) w j
+    pub words : (w j : ℕ) → FIRST_WORD ≤ w → w < length c.opening → j < LANES
+        → lane j (k.word w) ≡ left_by c (done_by k.written) w j
 
   -- each progress word is at most the cursor, nothing above a progress word was seen, and the needs of each performed
   -- write's record are met

@@ -11,7 +11,7 @@ use Rattle.order_core.specs.declared.course.Op.{Op}
 use Rattle.order_core.specs.declared.course.Operation.{Operation}
 use Rattle.order_core.specs.Lanes.{lane, covers, Meets}
 
--- what a plan says: the log of a run, the words of the table at its start, and the operations of each record of each hart
+-- what a plan says: the log of a run, the words of the table at its start, and the operations of each record
 pub record Planned : Type 0 where
   pub log : Log
   pub opening : List ℕ

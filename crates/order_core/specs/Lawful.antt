@@ -39,8 +39,8 @@ pub record InOrder (c : Course) : Type 0 where
 
 -- each read's value is, in its lanes, what the operations before it leave there
 abbrev pub HasValues : Course → Type 0
-HasValues c = (p : ℕ) (a : Operation) → At c p a → a.what.write ≡ false → (j : ℕ) → j < LANES → covers a.what.lanes j ≡ true
-    → lane j a.what.value ≡ lane_before c p a.what.word j
+HasValues c = (p : ℕ) (a : Operation) → At c p a → a.what.write ≡ false → (j : ℕ) → j < LANES
+    → covers a.what.lanes j ≡ true → lane j a.what.value ≡ lane_before c p a.what.word j
 
 -- a path leads from the earlier to the later of two clashing operations of different harts
 abbrev pub HasPaths : Course → Type 0
@@ -63,7 +63,7 @@ pub record IsLawful (c : Course) : Type 0 where
   pub values : HasValues c
   pub paths : HasPaths c
 
--- the laws of a plan that are left to be shown: that its operations are of records of the run, and in order, holds always
+-- the laws of a plan that are left to be shown: its operations are always of records of the run, and in order
 pub record IsLawfulPlan (plan : Planned) : Type 0 where
   pub log : IsRunLog plan.log
   pub few : length plan.log.lines < 4294967295

@@ -22,14 +22,15 @@ module _ (c : Course) where
 
   -- each next write finds in its lanes what the sequential run has there before it
   abbrev pub WritesFindLanes : Core → Type 0
-  WritesFindLanes k = (h p : ℕ) (a : Operation) → IsNextWrite c k h p a → (j : ℕ) → j < LANES → covers a.what.lanes j ≡ true
-      → lane j (k.word a.what.word) ≡ lane_before c p a.what.word j
+  WritesFindLanes k = (h p : ℕ) (a : Operation) → IsNextWrite c k h p a → (j : ℕ) → j < LANES
+      → covers a.what.lanes j ≡ true → lane j (k.word a.what.word) ≡ lane_before c p a.what.word j
 
   -- each read that is open stays open, with the same in its lanes, after each allowed step that is another hart's, or
   -- that leaves the read
   abbrev pub ReadsStayOpen : Core → Type 0
   ReadsStayOpen k = (h p : ℕ) (a : Operation) → IsOpen c k h p a
-      → (s : CoreStep) (k' : Core) → Makes c k s.hart s.act k' → (s.hart ≢ h) ⊎ LeavesRead c h a s.act → StaysOpen c h p a k k'
+      → (s : CoreStep) (k' : Core) → Makes c k s.hart s.act k' → (s.hart ≢ h) ⊎ LeavesRead c h a s.act
+      → StaysOpen c h p a k k'
 
   -- the words of the table are those at the end of the sequential run
   abbrev pub HasLastWords : Core → Type 0
@@ -39,8 +40,8 @@ module _ (c : Course) where
   abbrev pub HasMove : Core → Type 0
   HasMove k = (s : CoreStep) × (k' : Core) × Makes c k s.hart s.act k' × (k' ≢ k)
 
-  -- no more steps that change the state follow each other than there are writes, and for each hart records of the others,
-  -- and records
+  -- no more steps that change the state follow each other than there are writes, and for each hart records of the
+  -- others, and records
   abbrev pub HasFewMoves : Core → Type 0
   HasFewMoves k = (more : List CoreStep) (k' : Core) → MovesAlong c k more k' → length more ≤ most_moves c
 

@@ -61,7 +61,8 @@ module _ (c : Course) where
   -- the read stays open, and finds the same in its lanes
   abbrev pub StaysOpen : ℕ → ℕ → Operation → Core → Core → Type 0
   StaysOpen h p a k k' = IsOpen c k' h p a
-      × ((j : ℕ) → j < LANES → covers a.what.lanes j ≡ true → lane j (k'.word a.what.word) ≡ lane j (k.word a.what.word))
+      × ((j : ℕ) → j < LANES → covers a.what.lanes j ≡ true
+      → lane j (k'.word a.what.word) ≡ lane j (k.word a.what.word))
 
 -- f 0 + .. + f (n - 1)
 abbrev pub total : ℕ → (ℕ → ℕ) → ℕ

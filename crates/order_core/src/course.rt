@@ -3,7 +3,8 @@ use pl_base::layout::MAX_HARTS;
 use pl_event::Log;
 use std::collections::LinkedList;
 
-/// The first word of the table that operations may name: before it are a word of the table's own and the progress words.
+/// The first word of the table that operations may name: before it are a word of the table's own and the progress
+/// words.
 pub const FIRST_WORD: u32 = MAX_HARTS as u32 + 1;
 
 /// An operation of a record on a word of the table.

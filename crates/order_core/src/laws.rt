@@ -60,7 +60,8 @@ pub fn operations_in_turn()
     ensures passed { (plan : Planned) → ∥ IsLawful (course_of plan) ∥₁ → (k : Core) (h m i : ℕ) →
         HasComeToEnd plan k h m i → IsPassed (course_of plan) (k.written h) (k.seen h) h m }
     ensures next { (plan : Planned) → ∥ IsLawful (course_of plan) ∥₁ → (k : Core) (h m i : ℕ) →
-        HasComeToEnd plan k h m i → IsMet (course_of plan) (k.seen h) h (m + 1) → HasComeTo (course_of plan) k h (m + 1) 0 }
+        HasComeToEnd plan k h m i → IsMet (course_of plan) (k.seen h) h (m + 1) →
+        HasComeTo (course_of plan) k h (m + 1) 0 }
 {}
 
 /// In each consistent state that is not finished some hart may make a step that changes it. In a run no more steps that
@@ -81,9 +82,9 @@ pub fn waiting_harts()
         ((u need : ℕ) → WaitsFor c k h u need → ⊥) → IsMet c (k.seen h) h (k.progress h + 1) }
 {}
 
-/// A hart that has advertised its last record may free its seat, and then counts as one that has performed all its writes
-/// and seen each progress word. It has passed all its records so, each need of them is at most the progress word of the
-/// hart that it names, and the state stays consistent.
+/// A hart that has advertised its last record may free its seat, and then counts as one that has performed all its
+/// writes and seen each progress word. So it has passed all its records, each need of them is at most the progress word
+/// of the hart that it names, and the state stays consistent.
 pub fn freed_harts()
     ensures needs { (c : Course) (k : Core) → IsConsistent c k → (h : ℕ) → HasEnded c k h → (u n m : ℕ) →
         IsNeed c.log.lines u n h m → m ≤ length_of c h → n ≤ k.progress u }

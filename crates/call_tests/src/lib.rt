@@ -10,6 +10,8 @@ mod kernel_events;
 #[cfg(test)]
 mod machine_events;
 #[cfg(test)]
+mod many_reports;
+#[cfg(test)]
 mod memory_faults;
 #[cfg(test)]
 mod own_probe;

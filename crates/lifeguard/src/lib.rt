@@ -18,8 +18,6 @@ mod plain;
 mod report;
 mod rules;
 mod shadow;
-#[cfg(test)]
-mod tests;
 
 pub use calls::call_registers;
 pub use guard::{CheckedRegs, Lifeguard, Name, RangeKind, load_mask};

@@ -1,6 +1,6 @@
-//! What no clause can say of reports.
+//! More reports than sixteen bits count.
 
-use crate::{EventPlace, ReportKind, push_found};
+use lifeguard::{EventPlace, ReportKind, push_found};
 use std::test::Fail;
 
 #[test]

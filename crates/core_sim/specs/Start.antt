@@ -24,7 +24,8 @@ text_run words = record { first = TEXT_START / PAGE_BYTES; count = pages_of (4 *
 -- the pages of the data, where there are any
 abbrev pub data_runs : List ℕ → List PageRun
 data_runs [] = []
-data_runs (byte ∷ rest) = record { first = DATA_START / PAGE_BYTES; count = pages_of (length (byte ∷ rest)); kind = Data } ∷ []
+data_runs (byte ∷ rest) =
+    record { first = DATA_START / PAGE_BYTES; count = pages_of (length (byte ∷ rest)); kind = Data } ∷ []
 
 abbrev pub heap_run : PageRun
 heap_run = record { first = HEAP_START / PAGE_BYTES; count = (HEAP_END - HEAP_START) / PAGE_BYTES; kind = Heap }
@@ -43,8 +44,11 @@ is_text job page = is_among (TEXT_START / PAGE_BYTES) (pages_of (4 * length job.
 -- the byte at an address that nothing has written: the text, the data, and zeros
 abbrev pub image : Job → ℕ → ℕ
 image job address =
-    if is_among TEXT_START (length (text_bytes job.words)) address then slice_index (text_bytes job.words) (address - TEXT_START)
-    else (if is_among DATA_START (length job.data_bytes) address then slice_index job.data_bytes (address - DATA_START) else 0)
+    if is_among TEXT_START (length (text_bytes job.words)) address
+    then slice_index (text_bytes job.words) (address - TEXT_START)
+    else (if is_among DATA_START (length job.data_bytes) address
+    then slice_index job.data_bytes (address - DATA_START)
+    else 0)
 
 -- a live hart at its entry
 abbrev pub standing_at : ℕ → ℕ → Standing

@@ -16,5 +16,6 @@ pub fn one_run()
 
 /// Each event of a valid job's run is valid: its hart is one of the job's, and its fields are in their ranges.
 pub fn valid_events()
-    ensures { (job : Job) (before : List Entry) (e : Entry) → IsValidJob job → IsFront job (e ∷ before) → IsValidEvent (event_of e) job.harts }
+    ensures { (job : Job) (before : List Entry) (e : Entry) → IsValidJob job →
+        IsFront job (e ∷ before) → IsValidEvent (event_of e) job.harts }
 {}

@@ -41,7 +41,15 @@ impl Model for Machine {
 
     ghost Value = { MachineImage };
 
-    ghost view = { λ m. record { words = m.text; kernel = m.kernel; harts = m.harts.items; items = m.items; turn = m.turn; limit = m.limit; steps = m.steps } };
+    ghost view = { λ m. record {
+      words = m.text;
+      kernel = m.kernel;
+      harts = m.harts.items;
+      items = m.items;
+      turn = m.turn;
+      limit = m.limit;
+      steps = m.steps;
+    } };
 
     ghost invariant = { λ m. length m.harts.items ≤ MAX_HARTS };
 }
@@ -77,7 +85,8 @@ impl Machine {
     ///
     /// After `NoMemory` all is as before.
     pub fn step(&mut self) -> Result<StepOut, NoMemory>
-        ensures comes { IfOk result (λ out. (job : Job) (entries : List Entry) → Stands job entries self.old → Comes job entries self.old self.new out) }
+        ensures comes { IfOk result (λ out. (job : Job) (entries : List Entry) →
+            Stands job entries self.old → Comes job entries self.old self.new out) }
         ensures unchanged { OnErr result (self.new ≡ self.old) }
     {
         let Some(turn) = self.turn.of_step(self.items.as_slice(), &self.harts) else {

@@ -144,7 +144,9 @@ bytes_of s _ = 0
 
 -- more than 16,384 words or 262,144 bytes
 abbrev pub overfills : Place → Statement → Bool
-overfills place s = nat_lt MAX_TEXT_WORDS (place.words + words_of place.section s) || nat_lt MAX_DATA_BYTES (place.bytes + bytes_of place.section s)
+overfills place s =
+    nat_lt MAX_TEXT_WORDS (place.words + words_of place.section s)
+    || nat_lt MAX_DATA_BYTES (place.bytes + bytes_of place.section s)
 
 -- before the first line
 abbrev pub start : Place

@@ -148,7 +148,8 @@ fn push_words(
     section: Option<Section>,
     numbers: &[Number],
 ) -> Result<(), AllocError>
-    ensures { OnOk result (Appends words.old.items words.new.items (Ok (if is_text section then map (λ n. raw n.bits) numbers.now else []))) }
+    ensures { OnOk result (Appends words.old.items words.new.items
+        (Ok (if is_text section then map (λ n. raw n.bits) numbers.now else []))) }
 {
     if is_text(section) {
         push_numbers(words, numbers)?;
@@ -159,8 +160,10 @@ fn push_words(
 /// The words of a row at the end of the text.
 fn push_row(words: &mut Vec<u32>, row: &Row<'_>, to: u32) -> Result<(), JobRefused>
     requires { IsValidRow row.now }
-    ensures ok { OnOk result (Appends words.old.items words.new.items (statement_cells (placed row.now) to row.now.statement)) }
-    ensures fault { IfFault result (λ fault. on_line row.now.line (statement_cells (placed row.now) to row.now.statement) ≡ Err fault) }
+    ensures ok { OnOk result
+        (Appends words.old.items words.new.items (statement_cells (placed row.now) to row.now.statement)) }
+    ensures fault { IfFault result
+        (λ fault. on_line row.now.line (statement_cells (placed row.now) to row.now.statement) ≡ Err fault) }
 {
     match &row.statement {
         Statement::Word(numbers) => {
@@ -225,7 +228,8 @@ fn push_data_words(
     section: Option<Section>,
     numbers: &[Number],
 ) -> Result<(), AllocError>
-    ensures { OnOk result (bytes.new.items ≡ bytes.old.items ++ (if is_data section then flat_map (λ n. to_le_bytes w32 n.bits) numbers.now else [])) }
+    ensures { OnOk result (bytes.new.items ≡ bytes.old.items ++
+        (if is_data section then flat_map (λ n. to_le_bytes w32 n.bits) numbers.now else [])) }
 {
     if section == Some(Section::Data) {
         push_little(bytes, numbers)?;
@@ -382,10 +386,12 @@ pub fn build(alloc: Global, scan: &Scan<'_>) -> Result<Job, JobRefused>
     requires harts { harts_in (statements_in scan.now.rows.items) ≤ MAX_HARTS }
     requires schedule { IsSome (first_of schedule_in (statements_in scan.now.rows.items)) }
     requires steps { IsSome (first_of steps_in (statements_in scan.now.rows.items)) }
-    ensures ok { IfOk result (IsJobOfRows (defined scan.now.labels) (map placed scan.now.rows.items) (statements_in scan.now.rows.items)) }
+    ensures ok { IfOk result
+        (IsJobOfRows (defined scan.now.labels) (map placed scan.now.rows.items) (statements_in scan.now.rows.items)) }
     ensures drawn { IfOk result (λ job. IsDrawn job.schedule) }
     ensures typed { IfOk result HasTypedNumbers }
-    ensures fault { IfFault result (λ fault. second_pass (defined scan.now.labels) (map placed scan.now.rows.items) ≡ Err fault) }
+    ensures fault { IfFault result
+        (λ fault. second_pass (defined scan.now.labels) (map placed scan.now.rows.items) ≡ Err fault) }
 {
     let rows = scan.rows.as_slice();
     let words = second_pass(alloc, &scan.labels, rows)?;

@@ -63,7 +63,8 @@ fn turn_in(part: &[u8]) -> Option<Turn>
 
 /// The turns of the first part and of the others.
 fn all_turns(alloc: Global, first: &[u8], others: &[&[u8]]) -> Result<Option<Vec<Turn>>, AllocError>
-    ensures { IfOk result (λ found. option_map (λ v. v.items) found ≡ all_some (map turn_in (first.now ∷ texts others.now))) }
+    ensures { IfOk result
+        (λ found. option_map (λ v. v.items) found ≡ all_some (map turn_in (first.now ∷ texts others.now))) }
 {
     let mut turns = Vec::new(alloc);
     let Some(turn) = turn_in(first) else {
@@ -241,7 +242,8 @@ fn named<'a>(statement: Option<Statement>) -> Option<Said<'a>>
 }
 
 fn instruction<'a>(name: &[u8], parts: &[&'a [u8]]) -> Option<Said<'a>>
-    ensures value { option_map seen result ≡ option_map (λ r. (Statement.Code r.0, r.1)) (code_of name.now (texts parts.now)) }
+    ensures value { option_map seen result ≡
+        option_map (λ r. (Statement.Code r.0, r.1)) (code_of name.now (texts parts.now)) }
     ensures valid { IfSome result (λ r. IsValidStatement r.0) }
 {
     let (code, label) = code_of(name, parts)?;

@@ -65,7 +65,8 @@ impl Drawing {
     /// Draws so many actions and puts their instructions at the end.
     fn add_actions(&mut self, z: u32) -> Result<(), AllocError>
         ensures draws { OnOk result (self.new.x ≡ drawn_after self.old.x (2 * z)) }
-        ensures code { OnOk result (self.new.code.items ≡ self.old.code.items ++ flat_map (action_at self.old.x) (range_with_len 0 z)) }
+        ensures code { OnOk result
+            (self.new.code.items ≡ self.old.code.items ++ flat_map (action_at self.old.x) (range_with_len 0 z)) }
     {
         'actions: for done in 0..z {
             self.add_action()?;

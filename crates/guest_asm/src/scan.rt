@@ -136,7 +136,8 @@ fn push_row<'a>(
 ) -> Result<(), AllocFailed<Row<'a>>>
     requires words { place.words ≤ MAX_TEXT_WORDS }
     requires valid { IfSome statement IsValidStatement }
-    ensures rows { OnOk result (map placed rows.new.items ≡ map placed rows.old.items ++ row_with line place (option_copied named.entry) statement) }
+    ensures rows { OnOk result (map placed rows.new.items ≡ map placed rows.old.items ++
+        row_with line place (option_copied named.entry) statement) }
     ensures valid { OnOk result (All IsValidRow rows.old.items → All IsValidRow rows.new.items) }
 {
     if let Some(statement) = statement {
@@ -197,7 +198,8 @@ impl<'a> Scan<'a> {
         requires words { self.old.place.words ≤ MAX_TEXT_WORDS }
         requires bytes { self.old.place.bytes ≤ MAX_DATA_BYTES }
         requires valid { IsValidLine line }
-        ensures kept { OnOk result ((before : List Meaning) → number ≡ length before + 1 → Keeps before self.old → Keeps (before ++ shown line.entry ∷ []) self.new) }
+        ensures kept { OnOk result ((before : List Meaning) → number ≡ length before + 1 →
+            Keeps before self.old → Keeps (before ++ shown line.entry ∷ []) self.new) }
         ensures memory { IfErr result (λ e. e ≡ JobRefused.NoMemory) }
     {
         let Line {
@@ -216,7 +218,8 @@ impl<'a> Scan<'a> {
 /// The first pass: the statements and the labels of the lines, or the first line that breaks a rule.
 pub fn first_pass(alloc: Global, bytes: &[u8]) -> Result<Scan<'_>, JobRefused>
     requires { length bytes.now < 2 ^ 31 }
-    ensures ok { IfOk result (λ scan. (before : List Meaning) × (first_pass [] (lines_of bytes.now) ≡ Ok before) × Keeps before scan) }
+    ensures ok { IfOk result
+        (λ scan. (before : List Meaning) × (first_pass [] (lines_of bytes.now) ≡ Ok before) × Keeps before scan) }
     ensures fault { IfFault result (HasFault bytes.now) }
 {
     let mut scan = Scan::new(alloc);

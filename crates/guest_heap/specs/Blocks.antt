@@ -9,7 +9,8 @@ size_of (suc size) = Some (suc size)
 -- the asked size of the live block that starts at each address, where one does
 unfoldable pub asked : List ℕ → ℕ → Option ℕ
 asked sizes address =
-    if nat_le HEAP_START address && (address % UNIT_BYTES == 0) then size_of (slice_index sizes ((address - HEAP_START) / UNIT_BYTES))
+    if nat_le HEAP_START address && (address % UNIT_BYTES == 0)
+    then size_of (slice_index sizes ((address - HEAP_START) / UNIT_BYTES))
     else None
 
 -- a block is live: it starts there, and was asked with that size

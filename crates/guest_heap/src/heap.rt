@@ -56,7 +56,8 @@ impl Heap {
         ensures refused { IfOk result (λ answer. IfNone answer (IsRefused (IsLive self.old) n)) }
         ensures sized { IfOk result (λ answer. OnSome answer ((0 < n) × (n ≤ MAX_CALL_BYTES))) }
         ensures first { IfOk result (λ answer. IfSome answer (IsFirstFit (IsLive self.old) n)) }
-        ensures live { IfOk result (λ answer. IfSome answer (λ at. asked self.new ≡ changed (asked self.old) at (Some n))) }
+        ensures live { IfOk result
+            (λ answer. IfSome answer (λ at. asked self.new ≡ changed (asked self.old) at (Some n))) }
 
         ensures none { IfOk result (λ answer. IfNone answer (self.new ≡ self.old)) }
         ensures unchanged { OnErr result (self.new ≡ self.old) }

@@ -102,7 +102,8 @@ fn join(holes: &mut Vec<Hole>, index: usize, start: u32, end: u32)
 
 /// Whether there is a hole at a place of the list that starts at or before a unit.
 fn starts_by(holes: &[Hole], index: usize, unit: u32) -> bool
-    ensures { MatchBool result ((index < length holes.now) × (start_of holes.now index ≤ unit)) (index < length holes.now → unit < start_of holes.now index) }
+    ensures { MatchBool result ((index < length holes.now) × (start_of holes.now index ≤ unit))
+        (index < length holes.now → unit < start_of holes.now index) }
 {
     index < holes.len() && holes[index].start <= unit
 }

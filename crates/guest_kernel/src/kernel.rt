@@ -42,7 +42,8 @@ impl Model for Kernel {
 
     ghost Value = { KernelImage };
 
-    ghost view = { λ k. record { memory = k.mem; heap = k.heap; input = drop k.taken k.input.items; output = k.output.items } };
+    ghost view = { λ k. record
+        { memory = k.mem; heap = k.heap; input = drop k.taken k.input.items; output = k.output.items } };
 
     ghost invariant = { λ k. (k.taken ≤ length k.input.items) × (length k.output.items ≤ MAX_OUTPUT_BYTES) };
 }

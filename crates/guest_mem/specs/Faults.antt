@@ -35,7 +35,8 @@ pub record CanMap (memory : List (Option PageImage)) (first count : ℕ) : Type 
 abbrev pub IsMapFault : List (Option PageImage) → ℕ → ℕ → MapFault → Type 0
 IsMapFault memory first count Range = PAGE_COUNT < first + count
 IsMapFault memory first count Mapped = InRange first count × SomePage (mapped memory) first count true
-IsMapFault memory first count TooMany = InRange first count × EachPage (mapped memory) first count false × IsCrowded memory count
+IsMapFault memory first count TooMany =
+    InRange first count × EachPage (mapped memory) first count false × IsCrowded memory count
 IsMapFault memory first count NoMemory = CanMap memory first count
 
 -- why bytes are not read

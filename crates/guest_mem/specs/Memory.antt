@@ -9,7 +9,8 @@ page_at memory number = slice_index_or memory number None
 
 -- the byte at each address, where its page is mapped
 unfoldable pub bytes : List (Option PageImage) → ℕ → Option ℕ
-bytes memory address = option_map (λ page. slice_index page.bytes (address % PAGE_BYTES)) (page_at memory (address / PAGE_BYTES))
+bytes memory address =
+    option_map (λ page. slice_index page.bytes (address % PAGE_BYTES)) (page_at memory (address / PAGE_BYTES))
 
 -- whether each page is mapped
 unfoldable pub mapped : List (Option PageImage) → ℕ → Bool

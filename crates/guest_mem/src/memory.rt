@@ -159,7 +159,8 @@ impl PagedMem {
         requires { IsWidth width }
         ensures can { OnOk result (IsWritable self.old addr width) }
         ensures below { OnOk result (addr + width ≤ MEMORY_BYTES) }
-        ensures bytes { OnOk result (bytes self.new ≡ written (bytes self.old) addr (take width (to_le_bytes w32 value))) }
+        ensures bytes { OnOk result
+            (bytes self.new ≡ written (bytes self.old) addr (take width (to_le_bytes w32 value))) }
         ensures mapped { OnOk result (mapped self.new ≡ mapped self.old) }
         ensures texts { OnOk result (texts self.new ≡ texts self.old) }
 
@@ -180,7 +181,8 @@ impl PagedMem {
     pub fn read_bytes(&self, addr: u32, into: &mut [u8]) -> Result<(), MemFault>
         ensures mapped { OnOk result (AllMapped (bytes self.now) addr (length into.old)) }
         ensures below { OnOk result (1 ≤ length into.old → addr + length into.old ≤ MEMORY_BYTES) }
-        ensures value { OnOk result ((k : ℕ) → k < length into.new → bytes self.now (addr + k) ≡ Some (slice_index into.new k)) }
+        ensures value { OnOk result
+            ((k : ℕ) → k < length into.new → bytes self.now (addr + k) ≡ Some (slice_index into.new k)) }
         ensures fault { IfErr result (IsReadFault self.now addr (length into.old)) }
         ensures unchanged { OnErr result (into.new ≡ into.old) }
     {
@@ -278,7 +280,8 @@ impl PagedMem {
 
     /// Whether one of the pages from `first` up to `end` is mapped.
     fn any_mapped(&self, first: usize, end: usize) -> bool
-        ensures { MatchBool result ((page : ℕ) × (first ≤ page) × (page < end) × (mapped self.now page ≡ true)) ((page : ℕ) → first ≤ page → page < end → mapped self.now page ≡ false) }
+        ensures { MatchBool result ((page : ℕ) × (first ≤ page) × (page < end) × (mapped self.now page ≡ true))
+            ((page : ℕ) → first ≤ page → page < end → mapped self.now page ≡ false) }
     {
         for number in first..end {
             if self.maps(number) {
@@ -290,7 +293,8 @@ impl PagedMem {
 
     /// Whether each of the pages from `first` up to `end` is mapped.
     fn all_mapped(&self, first: usize, end: usize) -> bool
-        ensures { MatchBool result ((page : ℕ) → first ≤ page → page < end → mapped self.now page ≡ true) ((page : ℕ) × (first ≤ page) × (page < end) × (mapped self.now page ≡ false)) }
+        ensures { MatchBool result ((page : ℕ) → first ≤ page → page < end → mapped self.now page ≡ true)
+            ((page : ℕ) × (first ≤ page) × (page < end) × (mapped self.now page ≡ false)) }
     {
         for number in first..end {
             if !self.maps(number) {
@@ -303,7 +307,8 @@ impl PagedMem {
     /// The first of `count` addresses from `addr` on that lies on no mapped page.
     fn first_unmapped(&self, addr: u32, count: usize) -> Option<u32>
         requires { count < 2 ^ 63 }
-        ensures first { MatchOption result (AllMapped (bytes self.now) addr count) (λ byte. IsFirstUnmapped (bytes self.now) addr count byte) }
+        ensures first { MatchOption result (AllMapped (bytes self.now) addr count)
+            (λ byte. IsFirstUnmapped (bytes self.now) addr count byte) }
         ensures below { IfNone result (1 ≤ count → addr + count ≤ MEMORY_BYTES) }
     {
         let mut at = addr as usize;
@@ -320,7 +325,8 @@ impl PagedMem {
     /// Whether one of `count` addresses from `addr` on lies on a page of text.
     fn has_text(&self, addr: u32, count: usize) -> bool
         requires { count < 2 ^ 63 }
-        ensures { MatchBool result (HasText self.now addr count) ((k : ℕ) → addr ≤ k → k < addr + count → texts self.now (k / PAGE_BYTES) ≡ false) }
+        ensures { MatchBool result (HasText self.now addr count)
+            ((k : ℕ) → addr ≤ k → k < addr + count → texts self.now (k / PAGE_BYTES) ≡ false) }
     {
         let mut at = addr as usize;
         let end = at + count;

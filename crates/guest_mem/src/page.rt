@@ -80,7 +80,8 @@ impl Page {
         requires width { IsWidth width }
         requires within { at + width ≤ PAGE_BYTES }
         ensures text { self.new.text ≡ self.old.text }
-        ensures bytes { (k : ℕ) → slice_index self.new.bytes k ≡ overwritten (slice_index self.old.bytes) at (take width (to_le_bytes w32 value)) k }
+        ensures bytes { (k : ℕ) → slice_index self.new.bytes k ≡
+            overwritten (slice_index self.old.bytes) at (take width (to_le_bytes w32 value)) k }
     {
         let [b0, b1, b2, b3] = value.to_le_bytes();
         match width {
@@ -102,7 +103,8 @@ impl Page {
     pub fn copy_in(&mut self, at: usize, from: &[u8])
         requires { at + length from.now ≤ PAGE_BYTES }
         ensures text { self.new.text ≡ self.old.text }
-        ensures bytes { (k : ℕ) → slice_index self.new.bytes k ≡ overwritten (slice_index self.old.bytes) at from.now k }
+        ensures bytes { (k : ℕ) → slice_index self.new.bytes k ≡
+            overwritten (slice_index self.old.bytes) at from.now k }
     {
         self.bytes[at..at + from.len()].copy_from_slice(from);
     }

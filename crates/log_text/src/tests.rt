@@ -1,7 +1,7 @@
 ghost use Rattle.std.specs.Prelude.{◌≤◌, IfOk};
 ghost use Rattle.log_text.specs.WellFormed.{IsWritable};
 
-use crate::{LogCause, LogFault, LogRefused, log_laws, read_log, write_log};
+use crate::{LogCause, LogFault, LogRefused, log_flow, read_log, write_log};
 use pl_event::{Arcs, Event, Kind, Line, Lines, Log, PageRuns, Record};
 use std::alloc::{AllocError, Global};
 use std::process::Abort;
@@ -215,7 +215,7 @@ fn more_records_are_written_than_are_read(rt: HostRuntime) -> Result<(), Fail> {
 
 #[test]
 fn a_log_that_was_put_together_is_read_back(rt: HostRuntime) -> Result<(), Fail> {
-    log_laws();
+    log_flow();
     let alloc = rt.alloc();
     let log = counted_log(alloc, 3)?;
     let Ok(text) = write_log(alloc, &log) else {

@@ -1,6 +1,5 @@
 mod ArcReading
 mod Chain
-mod CountedLog
 mod KindFields
 mod LineTexts
 mod PointLemmas

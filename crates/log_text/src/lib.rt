@@ -17,8 +17,6 @@ mod source;
 mod stream;
 mod take;
 mod tally;
-#[cfg(test)]
-mod tests;
 mod write;
 
 pub use cause::{LogCause, LogFault, LogRefused};

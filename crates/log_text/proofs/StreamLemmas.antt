@@ -145,6 +145,16 @@ over_streamed limit began now window R P text same empty ready streams ends = re
     here : (bytes later : List ℕ) → HoldsNext bytes window.front later → R bytes (window.front ++ later) → P bytes
     here = subst (λ (t : List ℕ). (bytes later : List ℕ) → HoldsNext bytes t later → R bytes (t ++ later) → P bytes) same ends
 
+-- the source was at its end
+pub was_read : (limit : ℕ) (began now : Option (List ℕ)) (window : Window) (P : List ℕ → Type 0) → Streams limit began now window (λ bytes rest. P bytes) → window.ended ≡ true → WasRead limit began now P
+was_read limit began now window P streams over = record {
+  bytes = streams.taken;
+  consumed = streams.consumed;
+  end = (streams.ended over).1;
+  few = omega (arith, streams.counted);
+  holds = subst P (append-nil streams.taken) (streams.reads [] (λ _. refl));
+}
+
 -- the rest was read and let go, where P holds of the bytes whatever is to come
 pub rest_skipped : (limit : ℕ) (began old new : Option (List ℕ)) (window : Window) (P : List ℕ → Type 0) → Streams limit began old window (λ bytes rest. P bytes) → (window.ended ≡ true → new ≡ old) → Skips old new window.spare → WasRead limit began new P
 rest_skipped limit began old new window P streams kept skips = known window.ended refl

@@ -2,9 +2,12 @@
 use Rattle.std.specs.Prelude.{◌≡◌, ◌⊎◌, ℕ, ◌+◌, ◌^◌, ◌<◌, ◌≤◌, true, false, List, [], ◌++◌, length, Option, Some, None, Result, Ok, Err}
 use Rattle.std.specs.Io.KnownBytes.{Consumes, IsAtEnd}
 use Rattle.pl_base.specs.declared.layout.TheConstants.{MAX_RECORDS}
+use Rattle.pl_base.specs.declared.loops.ReadEnd.TheVariants as read_end
+use Rattle.pl_base.specs.Causes.{Rose}
 use Rattle.pl_base.specs.Fronts.{TakesFront}
 use Rattle.pl_base.specs.LineBuffer.{Window, ends_line}
 use Rattle.pl_event.specs.declared.log.Log.{Log}
+use Rattle.log_text.specs.declared.cause.LogFault.{LogFault}
 use Rattle.log_text.specs.declared.reader.Row.{Row}
 use Rattle.log_text.specs.declared.stream.Opening.{Opening}
 use Rattle.log_text.specs.declared.stream.LogEnd.{LogEnd}
@@ -49,6 +52,22 @@ pub record WasRead (limit : ℕ) (began now : Option (List ℕ)) (P : List ℕ �
 abbrev pub IsEnd : ℕ → Option (List ℕ) → Option (List ℕ) → LogEnd → Type 0
 IsEnd limit began now (log_end.Fault fault) = WasRead limit began now (λ bytes. IsNoLog bytes fault)
 IsEnd limit began now (log_end.Read end) = TakesFront end began now limit
+
+-- the stream has told this fault of its log, whose source was read to its end
+abbrev pub HasTold : LogStream → LogFault → Type 0
+HasTold stream fault = (stream.reader.refused ≡ Some fault) × (stream.buffer.ended ≡ true)
+
+-- an end of reading leaves the count of faults as it was, but where a read failed
+abbrev pub IsCaused : ℕ → ℕ → LogEnd → Type 0
+IsCaused before now (log_end.Fault fault) = now ≡ before
+IsCaused before now (log_end.Read read_end.Fault) = Rose before now
+IsCaused before now (log_end.Read read_end.TooLong) = now ≡ before
+IsCaused before now (log_end.Read read_end.NoMemory) = now ≡ before
+
+-- a success leaves it as it was too
+abbrev pub KeepsFaults : {T : Type 0} → ℕ → ℕ → Result T LogEnd → Type 0
+KeepsFaults before now (Ok value) = now ≡ before
+KeepsFaults before now (Err end) = IsCaused before now end
 
 -- a line is at hand, or the source is at its end
 abbrev pub IsReady : Window → Type 0

@@ -49,7 +49,8 @@ fn is_misplaced(tally: &Tally, run: PageRun) -> bool
 /// The first rule that a record breaks behind the lines so far.
 #[inline(always)]
 pub fn judge_row(tally: &Tally, what: Record, has_arcs: bool, list: &ArcList) -> Option<LogCause>
-    ensures { (before : List Entry) (arcs : List Point) → Keeps tally.now before → ShowsPoints has_arcs list.now arcs → result ≡ broken tally.now.harts before (row what arcs) }
+    ensures { (before : List Entry) (arcs : List Point) → Keeps tally.now before →
+        ShowsPoints has_arcs list.now arcs → result ≡ broken tally.now.harts before (row what arcs) }
 {
     if tally.records >= MAX_RECORDS {
         return Some(LogCause::Records);
@@ -75,7 +76,8 @@ pub fn judge_row(tally: &Tally, what: Record, has_arcs: bool, list: &ArcList) ->
 /// The first rule on its fields that an event breaks: a kind has one at most.
 #[inline(always)]
 fn judge_fields(tally: &Tally, what: Record) -> Option<LogCause>
-    ensures { (before : List Entry) → Keeps tally.now before → (harts : ℕ) (arcs : List Point) → result ≡ find (breaks harts before (row what arcs)) rules_of_fields }
+    ensures { (before : List Entry) → Keeps tally.now before → (harts : ℕ) (arcs : List Point) →
+        result ≡ find (breaks harts before (row what arcs)) rules_of_fields }
 {
     let Record::Event(event) = what else {
         return None;
@@ -108,7 +110,8 @@ fn unless(kept: bool, cause: LogCause) -> Option<LogCause>
 /// Whether the record is of a hart that the run does not have, or names one.
 #[inline]
 fn is_past_harts(tally: &Tally, what: Record, has_arcs: bool, list: &ArcList) -> bool
-    ensures { (before : List Entry) (arcs : List Point) → Keeps tally.now before → ShowsPoints has_arcs list.now arcs → result ≡ breaks_hart tally.now.harts what arcs }
+    ensures { (before : List Entry) (arcs : List Point) → Keeps tally.now before →
+        ShowsPoints has_arcs list.now arcs → result ≡ breaks_hart tally.now.harts what arcs }
 {
     names_past(tally.harts, what) || is_list_past(tally.harts, has_arcs, list)
 }
@@ -125,7 +128,8 @@ fn names_past(harts: u8, what: Record) -> bool
 
 #[inline]
 fn is_list_past(harts: u8, has_arcs: bool, list: &ArcList) -> bool
-    ensures { (arcs : List Point) → 1 ≤ harts → ShowsPoints has_arcs list.now arcs → result ≡ list_any (λ point. nat_le harts point.hart) arcs }
+    ensures { (arcs : List Point) → 1 ≤ harts → ShowsPoints has_arcs list.now arcs →
+        result ≡ list_any (λ point. nat_le harts point.hart) arcs }
 {
     has_arcs && list.highest >= harts
 }
@@ -133,7 +137,8 @@ fn is_list_past(harts: u8, has_arcs: bool, list: &ArcList) -> bool
 /// Whether an event follows the end of its hart.
 #[inline]
 fn is_after_end(tally: &Tally, what: Record) -> bool
-    ensures { (before : List Entry) → Keeps tally.now before → names_past tally.now.harts what ≡ false → result ≡ breaks_ended before what }
+    ensures { (before : List Entry) → Keeps tally.now before → names_past tally.now.harts what ≡ false →
+        result ≡ breaks_ended before what }
 {
     match what {
         Record::Event(event) => tally.ended[usize::from(event.hart % 8)],
@@ -155,14 +160,16 @@ fn is_open(tally: &Tally, hart: u8) -> bool
 /// Whether a record has not come.
 #[inline]
 fn is_to_come(tally: &Tally, of: Point) -> bool
-    ensures { (before : List Entry) → Keeps tally.now before → of.hart < 8 → result ≡ nat_lt (records_in of.hart before) of.number }
+    ensures { (before : List Entry) → Keeps tally.now before → of.hart < 8 →
+        result ≡ nat_lt (records_in of.hart before) of.number }
 {
     tally.numbers[usize::from(of.hart % 8)] < of.number
 }
 
 #[inline(always)]
 fn has_bad_arcs(tally: &Tally, what: Record, has_arcs: bool, list: &ArcList) -> bool
-    ensures { (before : List Entry) (arcs : List Point) → Keeps tally.now before → ShowsPoints has_arcs list.now arcs → breaks_hart tally.now.harts what arcs ≡ false
+    ensures { (before : List Entry) (arcs : List Point) → Keeps tally.now before →
+        ShowsPoints has_arcs list.now arcs → breaks_hart tally.now.harts what arcs ≡ false
         → result ≡ breaks_arc before what arcs }
 {
     has_arcs && (!list.rising || some_arc_is_bad(&list.numbers, record_hart(&what), &tally.numbers))
@@ -171,7 +178,8 @@ fn has_bad_arcs(tally: &Tally, what: Record, has_arcs: bool, list: &ArcList) -> 
 /// Whether an arc is of the own hart, or from a record that has not come: all eight harts are looked at, without a jump.
 #[inline]
 fn some_arc_is_bad(arcs: &[u32; 8], own: u8, numbers: &[u32; 8]) -> bool
-    ensures { result ≡ list_any (λ point. (point.hart == own) || nat_lt (slice_index_or numbers.now point.hart 0) point.number) (points_from 0 (arcs_in arcs.now)) }
+    ensures { result ≡ list_any (λ point. (point.hart == own)
+        || nat_lt (slice_index_or numbers.now point.hart 0) point.number) (points_from 0 (arcs_in arcs.now)) }
 {
     let mut bad = false;
     'harts: for hart in 0..8u8 {
@@ -193,14 +201,16 @@ fn is_arc_bad(arc: u32, is_own: bool, come: u32) -> bool
 /// Whether a notice is of the own hart or of a record that has come, or a record that is named is no alert event.
 #[inline(always)]
 fn is_bad_record(tally: &Tally, what: Record) -> bool
-    ensures { (before : List Entry) → Keeps tally.now before → names_past tally.now.harts what ≡ false → result ≡ breaks_notice before what }
+    ensures { (before : List Entry) → Keeps tally.now before → names_past tally.now.harts what ≡ false →
+        result ≡ breaks_notice before what }
 {
     is_bad_notice(tally, what) || (is_expected(tally, record_hart(&what)) && !is_alert_record(what))
 }
 
 #[inline]
 fn is_bad_notice(tally: &Tally, what: Record) -> bool
-    ensures { (before : List Entry) → Keeps tally.now before → names_past tally.now.harts what ≡ false → result ≡ is_bad_notice before what }
+    ensures { (before : List Entry) → Keeps tally.now before → names_past tally.now.harts what ≡ false →
+        result ≡ is_bad_notice before what }
 {
     match what {
         Record::Event(_) => false,
@@ -228,8 +238,10 @@ fn is_expected(tally: &Tally, hart: u8) -> bool
 
 /// Whether one of the notices is of the record behind that number of the hart.
 fn some_names(notices: &[Option<Point>; 8], hart: u8, number: u32) -> bool
-    ensures yes { result ≡ true → (own : ℕ) × (point : Point) × (own < 8) × (slice_index_or notices.now own None ≡ Some point) × (point.hart ≡ hart) × (point.number ≡ number + 1) }
-    ensures no { result ≡ false → (own : ℕ) (point : Point) → own < 8 → slice_index_or notices.now own None ≡ Some point → point.hart ≡ hart → point.number ≡ number + 1 → ⊥ }
+    ensures yes { result ≡ true → (own : ℕ) × (point : Point) × (own < 8) ×
+        (slice_index_or notices.now own None ≡ Some point) × (point.hart ≡ hart) × (point.number ≡ number + 1) }
+    ensures no { result ≡ false → (own : ℕ) (point : Point) → own < 8 →
+        slice_index_or notices.now own None ≡ Some point → point.hart ≡ hart → point.number ≡ number + 1 → ⊥ }
 {
     'harts: for own in 0..8usize {
         if names(notices[own], hart, number) {
@@ -241,7 +253,8 @@ fn some_names(notices: &[Option<Point>; 8], hart: u8, number: u32) -> bool
 
 #[inline]
 fn names(notice: Option<Point>, hart: u8, number: u32) -> bool
-    ensures some { (point : Point) → notice ≡ Some point → result ≡ ((point.hart == hart) && (point.number == number + 1)) }
+    ensures some { (point : Point) → notice ≡ Some point →
+        result ≡ ((point.hart == hart) && (point.number == number + 1)) }
     ensures none { notice ≡ None → result ≡ false }
 {
     match notice {

@@ -6,9 +6,9 @@ ghost use Rattle.pl_event.specs.Runs.{IsRunLog, HasNumbersTo};
 ghost use Rattle.log_text.specs.Form.{most_written};
 ghost use Rattle.log_text.specs.WellFormed.{IsWellFormed, IsWritable};
 
-/// A log is well-formed exactly where it is the log of a run and has at most 2,000,000 records. It may be written exactly
-/// where it is the log of a run and names no record number of more than 32 bits, so always where it has fewer than 2^32
-/// records.
+/// A log is well-formed exactly where it is the log of a run and has at most 2,000,000 records. It may be written
+/// exactly where it is the log of a run and names no record number of more than 32 bits, so always where it has fewer
+/// than 2^32 records.
 pub fn log_laws()
     ensures formed { (log : Log) → IsWellFormed log ↔ (IsRunLog log × (length log.lines ≤ MAX_RECORDS)) }
     ensures written { (log : Log) → IsWritable log ↔ (IsRunLog log × HasNumbersTo most_written log.lines) }

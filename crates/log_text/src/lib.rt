@@ -1,8 +1,8 @@
 //! The text of a log, read line by line.
 //!
-//! What is left of the bytes begins with a line in form, or with none; the rules then judge that line by the lines
-//! before it. The reader keeps a tally of the lines so far, the few numbers that the rules ask for, so a line is judged
-//! without a look back; it takes no memory for a line.
+//! What is left of the bytes begins with a syntactically valid line, or with none; the rules then judge that line by
+//! the lines before it. The reader keeps a tally of the lines so far, the few numbers that the rules ask for, so a line
+//! is judged without a look back; it takes no memory for a line.
 #![tactic(auto)]
 
 mod cause;
@@ -13,6 +13,7 @@ mod page_set;
 mod points;
 mod read;
 mod reader;
+mod source;
 mod stream;
 mod take;
 mod tally;
@@ -22,5 +23,6 @@ pub use cause::{LogCause, LogFault, LogRefused};
 pub use laws::log_laws;
 pub use read::read_log;
 pub use reader::Row;
+pub use source::read_source;
 pub use stream::{LogEnd, LogStream, Opening};
 pub use write::write_log;

@@ -53,7 +53,8 @@ impl PageSet {
 
     /// Maps `count` pages from `first` on, or unmaps them.
     pub fn mark(&mut self, first: u16, count: u16, mapped: bool)
-        ensures { first + count ≤ PAGE_COUNT → holds_at self.new.pages.items ≡ marked (holds_at self.old.pages.items) first count mapped }
+        ensures { first + count ≤ PAGE_COUNT →
+            holds_at self.new.pages.items ≡ marked (holds_at self.old.pages.items) first count mapped }
     {
         let from = u32::from(first);
         let end = (from + u32::from(count)).min(PAGE_COUNT);

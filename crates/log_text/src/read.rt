@@ -1,5 +1,6 @@
 ghost use Rattle.std.specs.Prelude.{◌≡◌, ◌<◌, ◌≤◌, ◌^◌, ◌++◌, ◌∷◌, [], List, ℕ, length, drop, IfOk, OnOk};
 ghost use Rattle.pl_event.specs.declared.log.Log.{Log};
+ghost use Rattle.log_text.specs.declared.cause.LogFault.{LogFault};
 ghost use Rattle.log_text.specs.Parts.{HasValidParts};
 ghost use Rattle.log_text.specs.Reading.{HasRead, IsReadBy, IsOnly, IsNoLog, opened, line_of};
 ghost use Rattle.log_text.specs.WellFormed.{IsLogText, IsFirstFault, IfFault};
@@ -10,7 +11,7 @@ use pl_event::{Lines, Log, PageRuns};
 use std::alloc::{AllocError, Global};
 
 /// The log that the bytes spell, or the first line that breaks a rule and the first rule that it breaks. The text of a
-/// log that was read is the bytes that were read.
+/// log that was read is the bytes that were read. Bytes have one log or one first fault, and never both.
 pub fn read_log(alloc: Global, bytes: &[u8]) -> Result<Log, LogRefused>
     requires { length bytes.now < 2 ^ 31 }
     ensures ok { IfOk result (IsLogText bytes.now) }
@@ -18,6 +19,8 @@ pub fn read_log(alloc: Global, bytes: &[u8]) -> Result<Log, LogRefused>
     ensures parts { IfOk result HasValidParts }
     ensures fault { IfFault result (IsFirstFault bytes.now) }
     ensures none { IfFault result (λ _. (log : Log) → IsLogText bytes.now log → ⊥) }
+    ensures one_fault { IfFault result (λ fault. (other : LogFault) → IsFirstFault bytes.now other → other ≡ fault) }
+    ensures no_fault { IfOk result (λ _. (fault : LogFault) → IsFirstFault bytes.now fault → ⊥) }
 {
     match LogReader::open(alloc, bytes) {
         Ok(header) => read_opened(alloc, header, bytes),
@@ -58,9 +61,11 @@ fn read_pages<'a>(
     text: &'a [u8],
     pages: &mut PageRuns,
 ) -> Result<&'a [u8], LogRefused>
-    ensures ok { (bytes : List ℕ) (log : Log) → length bytes < 2 ^ 31 → log.lines ≡ [] → log.pages ≡ pages.old → IsReadBy reader.old bytes (text.now ++ []) log
+    ensures ok { (bytes : List ℕ) (log : Log) → length bytes < 2 ^ 31 → log.lines ≡ [] → log.pages ≡ pages.old →
+        IsReadBy reader.old bytes (text.now ++ []) log
         → IfOk result (λ rest. HasRead reader.new bytes (rest.now ++ []) (record log { pages = pages.new })) }
-    ensures fault { (bytes : List ℕ) (log : Log) → length bytes < 2 ^ 31 → log.lines ≡ [] → log.pages ≡ pages.old → IsReadBy reader.old bytes (text.now ++ []) log → IfFault result (IsNoLog bytes) }
+    ensures fault { (bytes : List ℕ) (log : Log) → length bytes < 2 ^ 31 → log.lines ≡ [] → log.pages ≡ pages.old →
+        IsReadBy reader.old bytes (text.now ++ []) log → IfFault result (IsNoLog bytes) }
 {
     let mut rest = text;
     'pages: while let Some(found) = reader.next_pages(rest)? {
@@ -73,26 +78,17 @@ fn read_pages<'a>(
 
 /// Reads the record lines up to the end of the text.
 fn read_lines(reader: &mut LogReader, text: &[u8], lines: &mut Lines) -> Result<(), LogRefused>
-    ensures ok { (bytes : List ℕ) (log : Log) → length bytes < 2 ^ 31 → log.lines ≡ lines.old → HasRead reader.old bytes (text.now ++ []) log → OnOk result (IsOnly bytes (record log { lines = lines.new })) }
-    ensures fault { (bytes : List ℕ) (log : Log) → length bytes < 2 ^ 31 → log.lines ≡ lines.old → HasRead reader.old bytes (text.now ++ []) log → IfFault result (IsNoLog bytes) }
+    ensures ok { (bytes : List ℕ) (log : Log) → length bytes < 2 ^ 31 → log.lines ≡ lines.old →
+        HasRead reader.old bytes (text.now ++ []) log →
+        OnOk result (IsOnly bytes (record log { lines = lines.new })) }
+    ensures fault { (bytes : List ℕ) (log : Log) → length bytes < 2 ^ 31 → log.lines ≡ lines.old →
+        HasRead reader.old bytes (text.now ++ []) log → IfFault result (IsNoLog bytes) }
 {
     let mut rest = text;
     'lines: while let Some(row) = reader.next(rest)? {
-        push(lines, reader, &row)?;
+        reader.push_to(lines, &row)?;
         let (_, behind) = rest.split_at(row.len);
         rest = behind;
     }
     Ok(())
-}
-
-/// One more line.
-#[inline]
-fn push(lines: &mut Lines, reader: &LogReader, row: &Row) -> Result<(), AllocError>
-    ensures { OnOk result (lines.new ≡ lines.old ++ line_of reader.now row.now ∷ []) }
-{
-    if row.has_arcs {
-        lines.push(reader.line(row))
-    } else {
-        lines.push_record(row.what)
-    }
 }

@@ -18,10 +18,12 @@ use pl_event::{Point, Record};
 /// The first rule that a record breaks behind the lines so far; where it breaks none, it is one of them from now on.
 #[inline(always)]
 pub fn take_row(tally: &mut Tally, what: Record, has_arcs: bool, list: &ArcList) -> Option<LogCause>
-    ensures judged { (before : List Entry) (points : List Point) → Keeps tally.old before → ShowsPoints has_arcs list.now points
+    ensures judged { (before : List Entry) (points : List Point) → Keeps tally.old before →
+        ShowsPoints has_arcs list.now points
         → result ≡ broken tally.old.harts before (row what points) }
     ensures harts { tally.new.harts ≡ tally.old.harts }
-    ensures keeps { result ≡ None → (before : List Entry) (points : List Point) → Keeps tally.old before → broken tally.old.harts before (row what points) ≡ None
+    ensures keeps { result ≡ None → (before : List Entry) (points : List Point) → Keeps tally.old before →
+        broken tally.old.harts before (row what points) ≡ None
         → Keeps tally.new (before ++ row what points ∷ []) }
 {
     match what {
@@ -38,10 +40,12 @@ fn take_notice(
     has_arcs: bool,
     list: &ArcList,
 ) -> Option<LogCause>
-    ensures judged { (before : List Entry) (points : List Point) → Keeps tally.old before → ShowsPoints has_arcs list.now points
+    ensures judged { (before : List Entry) (points : List Point) → Keeps tally.old before →
+        ShowsPoints has_arcs list.now points
         → result ≡ broken tally.old.harts before (row (Record.Notice hart of) points) }
     ensures harts { tally.new.harts ≡ tally.old.harts }
-    ensures keeps { result ≡ None → (before : List Entry) (points : List Point) → Keeps tally.old before → broken tally.old.harts before (row (Record.Notice hart of) points) ≡ None
+    ensures keeps { result ≡ None → (before : List Entry) (points : List Point) → Keeps tally.old before →
+        broken tally.old.harts before (row (Record.Notice hart of) points) ≡ None
         → Keeps tally.new (before ++ row (Record.Notice hart of) points ∷ []) }
 {
     take_known(tally, Record::Notice { hart, of }, has_arcs, list)
@@ -49,10 +53,12 @@ fn take_notice(
 
 #[inline(always)]
 fn take_known(tally: &mut Tally, what: Record, has_arcs: bool, list: &ArcList) -> Option<LogCause>
-    ensures judged { (before : List Entry) (points : List Point) → Keeps tally.old before → ShowsPoints has_arcs list.now points
+    ensures judged { (before : List Entry) (points : List Point) → Keeps tally.old before →
+        ShowsPoints has_arcs list.now points
         → result ≡ broken tally.old.harts before (row what points) }
     ensures harts { tally.new.harts ≡ tally.old.harts }
-    ensures keeps { result ≡ None → (before : List Entry) (points : List Point) → Keeps tally.old before → broken tally.old.harts before (row what points) ≡ None
+    ensures keeps { result ≡ None → (before : List Entry) (points : List Point) → Keeps tally.old before →
+        broken tally.old.harts before (row what points) ≡ None
         → Keeps tally.new (before ++ row what points ∷ []) }
 {
     let cause = judge_row(tally, what, has_arcs, list);

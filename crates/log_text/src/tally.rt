@@ -50,7 +50,8 @@ impl Tally {
     /// A run of pages, which breaks no rule.
     pub fn add_page(&mut self, run: PageRun)
         ensures harts { self.new.harts ≡ self.old.harts }
-        ensures keeps { (before : List Entry) → Keeps self.old before → broken self.old.harts before (page run) ≡ None → Keeps self.new (before ++ page run ∷ []) }
+        ensures keeps { (before : List Entry) → Keeps self.old before →
+            broken self.old.harts before (page run) ≡ None → Keeps self.new (before ++ page run ∷ []) }
     {
         self.pages.mark(run.first, run.count, true);
         self.next_page = u32::from(run.first) + u32::from(run.count);
@@ -60,7 +61,8 @@ impl Tally {
     #[inline(always)]
     pub fn add_row(&mut self, what: Record)
         ensures harts { self.new.harts ≡ self.old.harts }
-        ensures keeps { (before : List Entry) (arcs : List Point) → Keeps self.old before → broken self.old.harts before (row what arcs) ≡ None
+        ensures keeps { (before : List Entry) (arcs : List Point) → Keeps self.old before →
+            broken self.old.harts before (row what arcs) ≡ None
             → Keeps self.new (before ++ row what arcs ∷ []) }
     {
         let at = usize::from(record_hart(&what) % 8);

@@ -142,7 +142,8 @@ fn write_load(
     rb: u8,
     addr: u32,
 ) -> Result<(), AllocError>
-    ensures { OnOk result (string_bytes out.new ≡ string_bytes out.old ++ join_with_byte 32 (kind_words (Kind.Ld width rd rb addr))) }
+    ensures { OnOk result (string_bytes out.new
+        ≡ string_bytes out.old ++ join_with_byte 32 (kind_words (Kind.Ld width rd rb addr))) }
 {
     let word = load_word(width);
     write!(out, "ld {word} {rd} {rb} {addr:x}")
@@ -167,7 +168,8 @@ fn write_store(
     rb: u8,
     addr: u32,
 ) -> Result<(), AllocError>
-    ensures { OnOk result (string_bytes out.new ≡ string_bytes out.old ++ join_with_byte 32 (kind_words (Kind.St width rv rb addr))) }
+    ensures { OnOk result (string_bytes out.new
+        ≡ string_bytes out.old ++ join_with_byte 32 (kind_words (Kind.St width rv rb addr))) }
 {
     let word = store_word(width);
     write!(out, "st {word} {rv} {rb} {addr:x}")
@@ -184,7 +186,8 @@ fn store_word(width: StoreWidth) -> &'static str
 }
 
 fn write_fault(out: &mut String, cause: FaultCause, addr: u32) -> Result<(), AllocError>
-    ensures { OnOk result (string_bytes out.new ≡ string_bytes out.old ++ join_with_byte 32 (kind_words (Kind.Ft cause addr))) }
+    ensures { OnOk result (string_bytes out.new
+        ≡ string_bytes out.old ++ join_with_byte 32 (kind_words (Kind.Ft cause addr))) }
 {
     let word = fault_word(cause);
     write!(out, "ft {word} {addr:x}")
@@ -222,7 +225,9 @@ fn write_arc(
     hart: u8,
     number: Option<u32>,
 ) -> Result<bool, AllocError>
-    ensures { (rest : List (Option ℕ)) → IfOk result (λ still. string_bytes out.new ++ arcs_text still (points_from (suc hart) rest) ≡ string_bytes out.old ++ arcs_text first (points_from hart (number ∷ rest))) }
+    ensures { (rest : List (Option ℕ)) →
+        IfOk result (λ still. string_bytes out.new ++ arcs_text still (points_from (suc hart) rest)
+        ≡ string_bytes out.old ++ arcs_text first (points_from hart (number ∷ rest))) }
 {
     let Some(number) = number else {
         return Ok(first);

@@ -126,7 +126,8 @@ fn place_of(letter: u8) -> u8
 #[inline(always)]
 fn load_width_of(letter: u8, is_unsigned: bool) -> Option<LoadWidth>
     ensures found { IfSome result (λ width. load_word width ≡ letter ∷ (if is_unsigned then 117 ∷ [] else [])) }
-    ensures every { (width : LoadWidth) → load_word width ≡ letter ∷ (if is_unsigned then 117 ∷ [] else []) → result ≡ Some width }
+    ensures every { (width : LoadWidth) → load_word width ≡ letter ∷ (if is_unsigned then 117 ∷ [] else []) →
+        result ≡ Some width }
 {
     match place_of(letter) + 4 * u8::from(is_unsigned) {
         0 => Some(LoadWidth::B),

@@ -12,7 +12,7 @@ pub lines-preserved : goal.lines-preserved
 lines-preserved c = λ bytes log few lines by.
     let read = c.in_ok-row.ensures.row bytes [] (lined log c.lines.lines) (next_last bytes c.lines.rest.now few) (c.lines.invariant bytes log few lines by) in
     let found = rw c.in-Some.is at read in
-    rw (c.split_at.ensures.back, c.in_ok-push.ensures) found.read
+    rw (c.split_at.ensures.back, c.in_ok-push_to.ensures) found.read
 
 pub returns-clause-ok : goal.returns-clause-ok
 returns-clause-ok c = λ bytes log few lines by.

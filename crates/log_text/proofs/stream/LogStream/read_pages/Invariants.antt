@@ -11,6 +11,7 @@ invariant-pages g l = record {
       → IsBegun limit began (g.S.Source.left l.source) l.self (paged log l.pages);
   over : l.reading ≡ false → (limit : ℕ) (began : Option (List ℕ)) (log : Log) → log.lines ≡ [] → log.pages ≡ l.initial.pages → IsBegun limit began (g.S.Source.left l.initial.source) l.initial.self log
       → IsStreamed limit began (g.S.Source.left l.source) l.self (paged log l.pages);
+  quiet : g.S.Source.faults l.source ≡ g.S.Source.faults l.initial.source;
   later : g.S.Source.faults l.initial.source ≤ g.S.Source.faults l.source;
 }
 

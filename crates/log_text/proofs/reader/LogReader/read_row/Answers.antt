@@ -1,7 +1,7 @@
 use Rattle.std.proofs.Common.{refl, sym}
 use Rattle.log_text.specs.Spelling.{entries_of}
 use Rattle.log_text.proofs.ReaderLemmas.{row_read, row_broken}
-use Rattle.log_text.proofs.reader.LogReader.next.Goals as goal
+use Rattle.log_text.proofs.reader.LogReader.read_row.Goals as goal
 
 pub returns-in-Some-take_row-clause-fault : goal.returns-in-Some-take_row-clause-fault
 returns-in-Some-take_row-clause-fault c = λ bytes later log next has.

@@ -34,7 +34,7 @@ mod tests;
 
 pub use course::{Course, FIRST_WORD, Op, Operation};
 pub use laws::{
-    core_is_sequential, filled_values, freed_harts, never_stuck, open_reads, operations_in_turn,
+    core_is_sequential, filled_plans, freed_harts, never_stuck, open_reads, operations_in_turn,
     plan_is_lawful, waiting_harts,
 };
 pub use list_plan::ListPlan;

@@ -13,7 +13,8 @@ use Rattle.order_core.specs.Lawful.{IsLawful, IsTable}
 use Rattle.order_core.specs.Core.{Core, IsPassed, IsConsistent, IsNextWrite, IsFinished, opening_core, after_write, after_advertise, after_see}
 use Rattle.order_core.specs.Runs.{IsReached, Makes, LeavesRead, StaysOpen}
 use Rattle.order_core.specs.Freed.{HasEnded, after_free}
-use Rattle.order_core.specs.Outcomes.{ReadsFindValues, WritesFindLanes, ReadsStayOpen, ReadsAreSequential, HasLastWords, HasMove, HasFewMoves}
+use Rattle.order_core.specs.Outcomes.{ReadsAreSequential}
+use Rattle.order_core.specs.Guarantees.{ReadsFindValues, WritesFindLanes, ReadsStayOpen, HasLastWords, HasMove, HasFewMoves}
 use Rattle.order_core.proofs.FreedLemmas as freed
 use Rattle.order_core.proofs.Keeps as keeps
 use Rattle.order_core.proofs.Whole as whole

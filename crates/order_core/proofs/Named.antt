@@ -12,7 +12,7 @@ use Rattle.order_core.specs.Course.{Planned, operation_of, tagged, operations_fr
 use Rattle.order_core.specs.Lawful.{IsName}
 use Rattle.order_core.proofs.Flatten.{at_append, at_left, at_right}
 
-abbrev some_op : Op → Option Op
+abbrev pub some_op : Op → Option Op
 some_op o = Some o
 
 tag_is : (h m i : ℕ) (os : List Op) (p j : ℕ) (a : Operation) → get_elem? (tagged h m i os) p ≡ some a → j ≡ i + p → (o : Op) × (slice_get os p ≡ Some o) × (a ≡ operation_of h m j o)

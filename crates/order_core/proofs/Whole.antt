@@ -12,7 +12,7 @@ use Rattle.order_core.specs.Course.{rank, last_lane, length_of, writes_of}
 use Rattle.order_core.specs.Lawful.{IsLawful}
 use Rattle.order_core.specs.Core.{Core, done_by, IsConsistent, IsFinished, IsOpen, MayRead, MayWrite, put, after_see, after_advertise, after_write, opening_core}
 use Rattle.order_core.specs.Runs.{Makes, Performs, Runs, IsReached, MovesAlong, LeavesRead, StaysOpen, most_moves}
-use Rattle.order_core.specs.Outcomes.{HasMove}
+use Rattle.order_core.specs.Guarantees.{HasMove}
 use Rattle.order_core.proofs.Ranks.{put_here, put_else, put_same, left_same}
 use Rattle.order_core.proofs.Keeps.{reads, writes, advertises, looks, opens}
 use Rattle.order_core.proofs.Words.{landed, lands}

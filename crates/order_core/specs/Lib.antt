@@ -7,6 +7,7 @@ pub mod Runs
 pub mod Waits
 pub mod Freed
 pub mod Turns
+pub mod Guarantees
 pub mod Outcomes
 pub mod Shapes
 pub mod Filled

@@ -1,6 +1,7 @@
 -- Operations whose values come from the words as they are.
-use Rattle.std.specs.Prelude.{◌≡◌, ℕ, ◌<◌, Bool, true, false, List, [], ◌∷◌, if◌then◌else◌}
+use Rattle.std.specs.Prelude.{◌≡◌, ℕ, ◌<◌, ◌≤◌, Bool, true, false, List, [], ◌∷◌, if◌then◌else◌}
 use Rattle.pl_base.specs.declared.layout.TheConstants.{LANES}
+use Rattle.order_core.specs.declared.course.TheConstants.{FIRST_WORD}
 use Rattle.order_core.specs.declared.course.Op.{Op}
 use Rattle.order_core.specs.declared.course.Operation.{Operation}
 use Rattle.order_core.specs.Lanes.{lane, covers}
@@ -43,6 +44,17 @@ IsFitting s = s.write ≡ true → (x j : ℕ) → j < LANES → covers s.lanes 
 abbrev pub AreFitting : List Shape → Type 0
 AreFitting [] = Unit {0}
 AreFitting (s ∷ ss) = IsFitting s × AreFitting ss
+
+-- the operation is on a word from FIRST_WORD on of so many, names one to four lanes, and leaves the others
+pub record IsSoundShape (words : ℕ) (s : Shape) : Type 0 where
+  pub low : FIRST_WORD ≤ s.word
+  pub high : s.word < words
+  pub lanes : (1 ≤ s.lanes) × (s.lanes ≤ 15)
+  pub fitting : IsFitting s
+
+abbrev pub AreSoundShapes : ℕ → List Shape → Type 0
+AreSoundShapes words [] = Unit {0}
+AreSoundShapes words (s ∷ ss) = IsSoundShape words s × AreSoundShapes words ss
 
 -- a read finds its word as it is, and a write leaves the lanes that it does not name
 abbrev pub IsFilled : (ℕ → ℕ) → Operation → Type 0

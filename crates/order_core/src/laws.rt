@@ -17,10 +17,10 @@ ghost use Rattle.order_core.specs.Runs.{Makes, IsReached};
 ghost use Rattle.order_core.specs.Waits.{WaitsFor};
 ghost use Rattle.order_core.specs.Freed.{HasEnded, after_free};
 ghost use Rattle.order_core.specs.Turns.{HasTurn, HasComeTo, HasComeToEnd};
-ghost use Rattle.order_core.specs.Outcomes.{ReadsFindValues, WritesFindLanes, ReadsStayOpen, HasLastWords};
-ghost use Rattle.order_core.specs.Outcomes.{HasMove, HasFewMoves};
+ghost use Rattle.order_core.specs.Guarantees.{ReadsFindValues, WritesFindLanes, ReadsStayOpen, HasLastWords};
+ghost use Rattle.order_core.specs.Guarantees.{HasMove, HasFewMoves};
 ghost use Rattle.order_core.specs.Shapes.{Shape};
-ghost use Rattle.order_core.specs.Filled.{words_after, AllFit, filled_plan};
+ghost use Rattle.order_core.specs.Filled.{words_after, AllFit, AreLawfulShapes, filled_plan};
 
 /// The opening state is consistent, and each allowed step keeps a state so. In a consistent state a read that is open
 /// finds its value, a next write finds what the sequential run has before it, and at the end the words are the last
@@ -100,12 +100,15 @@ pub fn plan_is_lawful()
 {}
 
 /// Where the operations of each record are filled from the words as they are, each read has its value, and the last
-/// words of the sequential run are the words after the last record.
-pub fn filled_values()
+/// words of the sequential run are the words after the last record. So the laws on the log, on words and lanes, and on
+/// paths make such a plan lawful.
+pub fn filled_plans()
     ensures values { (shapes : ℕ → (ℕ → ℕ) → List Shape) (log : Log) (opening : List ℕ) →
         AllFit shapes opening (length log.lines) → HasValues (course_of (filled_plan shapes log opening)) }
     ensures last { (shapes : ℕ → (ℕ → ℕ) → List Shape) (log : Log) (opening : List ℕ) →
         AllFit shapes opening (length log.lines) → (w j : ℕ) → j < LANES →
         last_lane (course_of (filled_plan shapes log opening)) w j ≡
         lane j (words_after shapes opening (length log.lines) w) }
+    ensures lawful { (shapes : ℕ → (ℕ → ℕ) → List Shape) (log : Log) (opening : List ℕ) →
+        AreLawfulShapes shapes log opening → IsLawful (course_of (filled_plan shapes log opening)) }
 {}

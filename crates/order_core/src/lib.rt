@@ -1,16 +1,13 @@
 //! The order in which the operations of a run may be made by harts beside each other, so that each read finds what the
 //! sequential run has there.
 //!
-//! A plan is a log, the opening words of a table, and for each record of the log its operations on these words. It is
-//! laid out as a course: one list of all operations in executed order. The core's state is counts alone: how many of
-//! its writes each hart has performed, how far its progress word is, and what it has seen of the others'. A write is
-//! performed where its rank among its hart's writes is below that count, so what a word holds is what the performed
-//! writes leave there, lane by lane. A state is consistent where it is closed and its progress is sound; the laws speak
-//! of every such state, however it came about. They rest on one fact: where the needs of a record were seen and a path
-//! leads to it from another hart, that hart's progress word is not below the path's beginning.
-//!
-//! `run_core` runs a list of steps. For each hart it keeps the place of its next write and how many records have needs
-//! that it has seen, so that a step is judged by places, and the plan is passed once.
+//! A plan is a log, the opening words of a table, and the operations of each record on them; its course is the list of
+//! all operations in executed order. A state is counts alone: how many of its writes each hart has performed, its
+//! progress word, and what it has seen of the others'. A write is performed where its rank among its hart's writes is
+//! below that count, and a lane holds what the performed writes leave there. The laws speak of every consistent state:
+//! where the needs of a record were seen and a path leads to it from another hart, that hart's progress word is not
+//! below the path's beginning. `run_core` runs a list of steps; it keeps for each hart the place of its next write and
+//! how many records have needs that it has seen, so it passes the plan once.
 #![tactic(auto)]
 
 mod course;
@@ -34,7 +31,7 @@ mod tests;
 
 pub use course::{Course, FIRST_WORD, Op, Operation};
 pub use laws::{
-    core_is_sequential, filled_values, freed_harts, never_stuck, open_reads, operations_in_turn,
+    core_is_sequential, filled_plans, freed_harts, never_stuck, open_reads, operations_in_turn,
     plan_is_lawful, waiting_harts,
 };
 pub use list_plan::ListPlan;

@@ -6,7 +6,8 @@ ghost use Rattle.order_core.specs.Runs.{IsReached};
 ghost use Rattle.order_core.specs.States.{hart_in, core_of, word_count};
 ghost use Rattle.order_core.specs.inner.Kept.{IsKept, AreKept, Fits};
 ghost use Rattle.order_core.specs.Outcomes.{IsFirstRefused, IsRefusal, HasCursors};
-ghost use Rattle.order_core.specs.Outcomes.{ReadsAreSequential, ReadsStayOpen, HasLastWords, HasMove, HasFewMoves};
+ghost use Rattle.order_core.specs.Outcomes.{ReadsAreSequential};
+ghost use Rattle.order_core.specs.Guarantees.{ReadsStayOpen, HasLastWords, HasMove, HasFewMoves};
 ghost use Rattle.order_core.specs.declared.refused.CoreRefused.TheVariants.{NotAble, NoMemory};
 
 use crate::moves::make;

@@ -1,12 +1,10 @@
 -- Each event of a run is valid.
-use Rattle.std.proofs.Common.{◌≡◌, ◌≢◌, ◌==◌, ℕ, zero, suc, ◌+◌, ◌-◌, ◌/◌, ◌%◌, ◌^◌, ◌<◌, ◌≤◌, ◌&&◌, ◌||◌, inl, inr, Bool, true, false, List, [], ◌∷◌, ◌++◌, length, take, drop, find, min, Option, Some, None, IfSome, IsSome, slice_index, nat_le, nat_lt, unwrap_or, refl, arith, sym, subst}
+use Rattle.std.proofs.Common.{◌≡◌, ◌≢◌, ◌==◌, ℕ, zero, suc, ◌+◌, ◌-◌, ◌/◌, ◌%◌, ◌^◌, ◌<◌, ◌≤◌, ◌&&◌, inl, inr, Bool, true, false, List, [], ◌∷◌, length, take, drop, find, min, Option, Some, None, IfSome, IsSome, slice_index, nat_le, nat_lt, unwrap_or, refl, arith, sym, subst}
 use Rattle.std.proofs.lemmas.List.{length-take, length-set}
-use Rattle.std.proofs.lemmas.Bool.{cases_Bool, cases_eq, both_ways, and_parts, or_cases, eq-eqb, ne_eqb, eqb-true}
-use Rattle.guest_mem.specs.Bytes.{is_among, AllMapped}
-use Rattle.guest_mem.specs.Faults.{EachPage}
-use Rattle.guest_mem.specs.Memory.{count_below}
-use Rattle.guest_mem.proofs.Among.{among, not_among_before, not_among_past, place}
-use Rattle.guest_mem.proofs.Counts.{count_none, count_more, count_less}
+use Rattle.std.proofs.lemmas.Bool.{cases_Bool, cases_eq, both_ways, and_parts, eq-eqb, ne_eqb, eqb-true}
+use Rattle.pl_base.specs.Pages.{is_among, EachPage, count_below}
+use Rattle.guest_mem.specs.Bytes.{AllMapped}
+use Rattle.pl_base.proofs.Pages.{among, place, count_more, count_fewer}
 use Rattle.guest_kernel.specs.declared.call.CallArgs.{CallArgs}
 use Rattle.guest_kernel.specs.declared.call.KernelStep.{KernelStep}
 use Rattle.guest_kernel.specs.declared.call.KernelStep.TheVariants.{Ended, Went}
@@ -19,7 +17,6 @@ use Rattle.pl_base.specs.declared.widths.StoreWidth.{StoreWidth}
 use Rattle.pl_base.specs.declared.widths.StoreWidth.TheVariants as store
 use Rattle.pl_event.specs.declared.event.Kind.{Kind}
 use Rattle.pl_event.specs.declared.event.Kind.TheVariants.{Ld, St, Op, Mv, Im, Br, Jr, Al, Fr, Bf, Mp, Um, Rd, Wr, Ex, Ft}
-use Rattle.pl_event.specs.declared.log.PageRun.{PageRun}
 use Rattle.pl_event.specs.Valid.{IsByteRange, HasValidFields, IsValidEvent}
 use Rattle.rv_isa.specs.declared.instruction.Instr.{Instr}
 use Rattle.rv_isa.specs.declared.instruction.Instr.TheVariants as instrs
@@ -36,19 +33,23 @@ use Rattle.core_sim.specs.declared.job.Job.{Job}
 use Rattle.core_sim.specs.declared.turn.Place.{Place}
 use Rattle.core_sim.specs.declared.turn.Place.TheVariants.{Around, Listed, Drawn}
 use Rattle.core_sim.specs.declared.turn.Turn.{Turn}
-use Rattle.core_sim.specs.Entries.{Entry, is_mapped, mapped_by, block_at, blocks_by, byte_at, value, state_after, harts_after}
+use Rattle.pl_event.specs.Mapping.{mapped_by}
+use Rattle.core_sim.specs.Entries.{Entry, is_mapped, block_at, blocks_by, byte_at, value, state_after, harts_after}
 use Rattle.core_sim.specs.Events.{kind_of, is_copy, cancels}
 use Rattle.core_sim.specs.Harts.{is_live, live_from, live_harts, is_among_live}
 use Rattle.core_sim.specs.Runs.{IsFront, state_of_hart}
 use Rattle.core_sim.specs.Schedules.{items_of, first_live, listed_turn, next_turn, drawn, turn_of_step}
 use Rattle.core_sim.specs.Stands.{event_of, turn_after}
-use Rattle.core_sim.specs.Start.{text_run, data_runs, heap_run, stack_run, start_runs, is_in_runs}
+use Rattle.core_sim.specs.Start.{start_runs}
 use Rattle.core_sim.specs.Steps.{Act, word_at, called, call_args, CanLoad, CanStore, IsDone, IsFetched, IsStep}
 use Rattle.core_sim.specs.Valid.{IsValidJob}
+use Rattle.pl_event.proofs.OpeningPages.{count_runs, runs_inside}
+use Rattle.core_sim.proofs.Opening.{rises, few_pages}
 use Rattle.core_sim.proofs.Lives.{live_more, live_less, within_live}
 use Rattle.core_sim.proofs.Starts.{length_begin}
 use Rattle.core_sim.proofs.Ties.{shown_mapped, among_parts}
 use Rattle.core_sim.proofs.Turning.{same_hart}
+use Rattle.core_sim.proofs.Typed.{HasWordAddress, word_address}
 
 -- pages of the map region, at least one
 pub record InRegion (page count : ℕ) : Type 0 where
@@ -213,7 +214,7 @@ pub record Bounds (test : ℕ → Bool) (blocks : ℕ → Option ℕ) : Type 0 w
 block_range : (s : State) (len addr : ℕ) → Allocates s len addr → IsByteRange addr len
 block_range s len addr given = (omega (arith, given.few, given.first.place.within, given.some), omega (arith, given.some), given.few, omega (arith, given.first.place.within))
 
-bounds_next : (s : State) (kind : Kind) → Bounds s.mapped s.blocks → Tells s kind → Bounds (mapped_by kind s.mapped) (blocks_by kind s.blocks)
+bounds_next : (s : State) (kind : Kind) → Bounds s.mapped s.blocks → Tells s kind → Bounds (mapped_by s.mapped kind) (blocks_by kind s.blocks)
 bounds_next s (Ld width rd rb addr) b tells = b
 bounds_next s (St width rv rb addr) b tells = b
 bounds_next s (Op rd r1 r2) b tells = b
@@ -258,64 +259,14 @@ bounds_next s (Um page count) b tells = record {
     | inl holds ↦ absurd (let e : false ≡ true = rw holds at is in both_ways _ refl e)
     | inr fails ↦ b.pages other (rw fails at is)
   ];
-  few = omega (arith, count_less s.mapped page count 4096 tells.all_mapped, b.few, tells.region.within);
+  few = omega (arith, count_fewer s.mapped page count 4096 tells.all_mapped, b.few, tells.region.within);
   fit = b.fit;
 }
 
--- the pages of the start
-abbrev RunsBelow : List PageRun → Type 0
-RunsBelow [] = Unit {0}
-RunsBelow (run ∷ runs) = (run.first + run.count ≤ 4096) × RunsBelow runs
-
-abbrev total : List PageRun → ℕ
-total [] = 0
-total (run ∷ runs) = run.count + total runs
-
-runs_below : (runs : List PageRun) (page : ℕ) → RunsBelow runs → is_in_runs runs page ≡ true → page < 4096
-runs_below [] page below is = absurd (both_ways _ refl is)
-runs_below (run ∷ runs) page below is = elim (or_cases (is_among run.first run.count page) (is_in_runs runs page) is) [
-  | inl here ↦ omega (arith, (among_parts run.first run.count page here).1, below.0)
-  | inr there ↦ runs_below runs page below.1 there
-]
-
-count_either : (p q : ℕ → Bool) (n : ℕ) → count_below (λ k. p k || q k) n ≤ count_below p n + count_below q n
-unfolding count_below
-count_either p q zero = omega arith
-count_either p q (suc n) =
-    let before = count_either p q n in
-    elim (cases_Bool (p n)) [
-      | inl yes_p ↦ elim (cases_Bool (q n)) [ inl yes_q ↦ rw (yes_p, yes_q) (omega (arith, before)) | inr no_q ↦ rw (yes_p, no_q) (omega (arith, before)) ]
-      | inr no_p ↦ elim (cases_Bool (q n)) [ inl yes_q ↦ rw (no_p, yes_q) (omega (arith, before)) | inr no_q ↦ rw (no_p, no_q) (omega (arith, before)) ]
-    ]
-
-count_among : (first count n : ℕ) → count_below (is_among first count) n + min n first ≡ min n (first + count)
-unfolding count_below
-count_among first count zero = omega arith
-count_among first count (suc n) =
-    let before = count_among first count n in
-    elim (place first count n) [
-      | inl (from, within) ↦ rw (among first count n from within) (omega (arith, before, from, within))
-      | inr (inl early) ↦ rw (not_among_before first count n early) (omega (arith, before, early))
-      | inr (inr past) ↦ rw (not_among_past first count n past) (omega (arith, before, past))
-    ]
-
-count_runs : (runs : List PageRun) (n : ℕ) → count_below (is_in_runs runs) n ≤ total runs
-count_runs [] n = omega (arith, count_none (is_in_runs []) n (λ k. refl))
-count_runs (run ∷ runs) n =
-    omega (arith, count_either (is_among run.first run.count) (is_in_runs runs) n, count_among run.first run.count n, count_runs runs n)
-
-start_below : (job : Job) → IsValidJob job → (bytes : List ℕ) → length bytes ≤ 262144 → RunsBelow ((text_run job.words ∷ data_runs bytes) ++ heap_run ∷ stack_run job.harts ∷ [])
-start_below job valid [] few = (omega (arith, valid.few_words), (omega arith, (omega (arith, valid.few_harts), tt)))
-start_below job valid (byte ∷ rest) few = (omega (arith, valid.few_words), (omega (arith, few), (omega arith, (omega (arith, valid.few_harts), tt))))
-
-start_total : (job : Job) → IsValidJob job → (bytes : List ℕ) → length bytes ≤ 262144 → total ((text_run job.words ∷ data_runs bytes) ++ heap_run ∷ stack_run job.harts ∷ []) ≤ 512
-start_total job valid [] few = omega (arith, valid.few_words, valid.few_harts)
-start_total job valid (byte ∷ rest) few = omega (arith, valid.few_words, valid.few_harts, few)
-
 bounds_of : (job : Job) (entries : List Entry) → IsValidJob job → IsFront job entries → Bounds (is_mapped job entries) (block_at entries)
 bounds_of job [] valid front = record {
-  pages = λ page is. runs_below (start_runs job) page (start_below job valid job.data_bytes valid.few_bytes) is;
-  few = omega (arith, count_runs (start_runs job) 4096, start_total job valid job.data_bytes valid.few_bytes);
+  pages = λ page is. runs_inside 0 (start_runs job) page (rises job valid) is;
+  few = omega (arith, count_runs 0 (start_runs job) (rises job valid), few_pages job valid);
   fit = λ addr len is. absurd (cc);
 }
 bounds_of job (e ∷ before) valid front =
@@ -343,29 +294,29 @@ moved_range job before addr len b moves =
     let last : addr + len - 1 < 2 ^ 24 = byte_below job before (addr + len - 1) b (moves.all_mapped (addr + len - 1) (omega (arith, moves.some)) (omega (arith, moves.some))) in
     (first, moves.some, moves.few, omega (arith, last, moves.some))
 
-valid_fields : (job : Job) (before : List Entry) (kind : Kind) → Bounds (is_mapped job before) (block_at before) → Tells (state_after job before) kind → HasValidFields kind
-valid_fields job before (Ld width rd rb addr) b tells = (tells.0, tells.1, (byte_below job before addr b (tells.2.all_mapped addr (omega arith) (omega (arith, some_loaded width))), tells.2.aligned))
-valid_fields job before (St width rv rb addr) b tells = (tells.0, tells.1, (byte_below job before addr b (tells.2.all_mapped addr (omega arith) (omega (arith, some_stored width))), tells.2.aligned))
-valid_fields job before (Op rd r1 r2) b tells = tells
-valid_fields job before (Mv rd rs) b tells = tells
-valid_fields job before (Im rd) b tells = tells
-valid_fields job before (Br r1 r2) b tells = tells
-valid_fields job before (Jr rd rs) b tells = tells
-valid_fields job before (Al addr len) b tells = block_range (state_after job before) len addr tells
-valid_fields job before (Fr addr len) b tells = b.fit addr len tells
-valid_fields job before (Bf addr) b tells = tt
-valid_fields job before (Mp page count) b tells =
+valid_fields : (job : Job) (before : List Entry) (kind : Kind) → Bounds (is_mapped job before) (block_at before) → Tells (state_after job before) kind → HasWordAddress kind → HasValidFields kind
+valid_fields job before (Ld width rd rb addr) b tells word = (tells.0, tells.1, (byte_below job before addr b (tells.2.all_mapped addr (omega arith) (omega (arith, some_loaded width))), tells.2.aligned))
+valid_fields job before (St width rv rb addr) b tells word = (tells.0, tells.1, (byte_below job before addr b (tells.2.all_mapped addr (omega arith) (omega (arith, some_stored width))), tells.2.aligned))
+valid_fields job before (Op rd r1 r2) b tells word = tells
+valid_fields job before (Mv rd rs) b tells word = tells
+valid_fields job before (Im rd) b tells word = tells
+valid_fields job before (Br r1 r2) b tells word = tells
+valid_fields job before (Jr rd rs) b tells word = tells
+valid_fields job before (Al addr len) b tells word = block_range (state_after job before) len addr tells
+valid_fields job before (Fr addr len) b tells word = b.fit addr len tells
+valid_fields job before (Bf addr) b tells word = word
+valid_fields job before (Mp page count) b tells word =
     (omega (arith, tells.region.some, tells.region.within), tells.region.some, omega (arith, tells.room), omega (arith, tells.region.within))
-valid_fields job before (Um page count) b tells = (
+valid_fields job before (Um page count) b tells word = (
   omega (arith, tells.region.some, tells.region.within),
   tells.region.some,
-  omega (arith, count_less (is_mapped job before) page count 4096 tells.all_mapped, b.few, tells.region.within),
+  omega (arith, count_fewer (is_mapped job before) page count 4096 tells.all_mapped, b.few, tells.region.within),
   omega (arith, tells.region.within),
 )
-valid_fields job before (Rd addr len) b tells = moved_range job before addr len b tells
-valid_fields job before (Wr addr len) b tells = moved_range job before addr len b tells
-valid_fields job before Ex b tells = tt
-valid_fields job before (Ft cause addr) b tells = tt
+valid_fields job before (Rd addr len) b tells word = moved_range job before addr len b tells
+valid_fields job before (Wr addr len) b tells word = moved_range job before addr len b tells
+valid_fields job before Ex b tells word = tt
+valid_fields job before (Ft cause addr) b tells word = word
 
 -- the hart of an event
 abbrev AllBelow : ℕ → List ℕ → Type 0
@@ -428,5 +379,6 @@ pub event_is_valid : (job : Job) (before : List Entry) (e : Entry) → IsValidJo
 event_is_valid job before e valid front =
     let turn = turn_below (items_of job.schedule) (turn_after job before) (harts_after job before) front.1.live in (
       omega (arith, turn, front.1.hart, same_hart job before front.0 front.1.live, harts_within job before),
-      valid_fields job before e.act.kind (bounds_of job before valid front.0) (tells_step job.words (state_after job before) (state_of_hart job before e.hart) e.act front.1.step),
+      valid_fields job before e.act.kind (bounds_of job before valid front.0) (tells_step job.words (state_after job before) (state_of_hart job before e.hart) e.act front.1.step)
+          (word_address job before e valid front),
     )

@@ -4,7 +4,9 @@ mod Fitting
 mod Turning
 mod Stepping
 mod Starts
+mod Opening
 mod Roomy
 mod Doings
 mod Unique
 mod Happening
+mod Typed

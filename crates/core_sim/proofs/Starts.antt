@@ -6,15 +6,17 @@ use Rattle.std.proofs.Math.Path.{fun_ext}
 use Rattle.std.proofs.Math.Seq.{drop-cons, take-length}
 use Rattle.std.proofs.lemmas.List.{length-drop}
 use Rattle.std.proofs.lemmas.Bool.{cases_Bool, both_ways, and_parts, leb-true, ltb-true, or_left, or_right}
-use Rattle.guest_mem.specs.Bytes.{is_among, written, repaged, marked, AllMapped}
+use Rattle.pl_base.specs.Pages.{is_among, marked}
+use Rattle.guest_mem.specs.Bytes.{written, repaged, AllMapped}
 use Rattle.guest_mem.specs.Image.{PageImage}
 use Rattle.guest_mem.specs.Memory.{page_at, bytes, mapped, texts}
-use Rattle.guest_mem.proofs.Among.{among, not_among_past}
+use Rattle.pl_base.proofs.Pages.{among, not_among_past}
 use Rattle.pl_event.specs.declared.log.PageRun.{PageRun}
 use Rattle.core_sim.specs.declared.job.Job.{Job}
 use Rattle.core_sim.specs.Entries.{byte_at, is_mapped}
 use Rattle.core_sim.specs.Mapping.{MapsRun, MapsRuns, IsStartMemory}
-use Rattle.core_sim.specs.Start.{pages_of, text_bytes, text_run, data_runs, heap_run, stack_run, start_runs, is_in_runs, is_text, begin_from}
+use Rattle.pl_event.specs.OpeningPages.{is_in_runs}
+use Rattle.core_sim.specs.Start.{pages_of, text_bytes, text_run, data_runs, heap_run, stack_run, start_runs, is_text, begin_from}
 
 -- pages of fails mapped page are no text
 text_mapped : (memory : List (Option PageImage)) (page : ℕ) → mapped memory page ≡ false → texts memory page ≡ false

@@ -3,8 +3,9 @@ use Rattle.std.proofs.Common.{◌≡◌, ℕ, ◌+◌, ◌*◌, ◌/◌, ◌<◌
 use Rattle.std.proofs.Math.Path.{fun_ext}
 use Rattle.std.proofs.lemmas.List.{append-nil, drop-drop}
 use Rattle.std.proofs.lemmas.Bool.{cases_Bool, both_ways, and_parts, leb-true, ltb-true}
-use Rattle.guest_mem.specs.Bytes.{is_among, written, repaged, marked, AllMapped}
-use Rattle.guest_mem.proofs.Among.{not_among_past}
+use Rattle.pl_base.specs.Pages.{is_among, marked}
+use Rattle.guest_mem.specs.Bytes.{written, repaged, AllMapped}
+use Rattle.pl_base.proofs.Pages.{not_among_past}
 use Rattle.guest_kernel.specs.State.{State}
 use Rattle.pl_event.specs.declared.event.Kind.{Kind}
 use Rattle.pl_event.specs.declared.event.Kind.TheVariants.{Ld, St, Op, Mv, Im, Br, Jr, Al, Fr, Bf, Mp, Um, Rd, Wr, Ex, Ft}

@@ -1,16 +1,19 @@
 -- A run as the list of its entries, the latest first, and what is looked up in it.
-use Rattle.std.specs.Prelude.{ℕ, ◌+◌, ◌-◌, ◌/◌, Bool, true, false, if◌then◌else◌, List, [], ◌∷◌, ◌++◌, Option, Some, None, length, drop, slice_index, slice_set, unwrap_or}
-use Rattle.guest_mem.specs.Bytes.{is_among, marked}
+use Rattle.std.specs.Prelude.{ℕ, ◌+◌, ◌-◌, ◌/◌, Bool, if◌then◌else◌, List, [], ◌∷◌, ◌++◌, Option, Some, None, length, drop, slice_index, slice_set, unwrap_or}
+use Rattle.pl_base.specs.Pages.{is_among}
 use Rattle.guest_heap.specs.Blocks.{changed}
 use Rattle.guest_kernel.specs.State.{State}
 use Rattle.pl_event.specs.declared.event.Kind.{Kind}
-use Rattle.pl_event.specs.declared.event.Kind.TheVariants.{St, Al, Fr, Mp, Um, Rd}
+use Rattle.pl_event.specs.declared.event.Kind.TheVariants.{St, Al, Fr, Mp, Rd}
 use Rattle.core_sim.specs.declared.job.Job.{Job}
 use Rattle.core_sim.specs.declared.hart.Standing.{Standing}
 use Rattle.core_sim.specs.Harts.{live_harts}
-use Rattle.core_sim.specs.Start.{start_runs, is_in_runs, is_text, image, first_harts}
+use Rattle.pl_event.specs.OpeningPages.{is_in_runs}
+use Rattle.core_sim.specs.Start.{start_runs, is_text, image, first_harts}
 use Rattle.core_sim.specs.Steps.{Act}
 use Rattle.core_sim.specs.Turns.{Turned, with_current, one_more, latest_hart}
+use Rattle.pl_base.specs.declared.layout.TheConstants.{PAGE_BYTES}
+use Rattle.pl_event.specs.Mapping.{mapped_by}
 
 -- one step of a run: its hart and what it came to
 pub record Entry : Type 0 where
@@ -25,7 +28,7 @@ byte_of at list k = if is_among at (length list) k then Some (slice_index list (
 abbrev pub wrote : Kind → List ℕ → ℕ → Option ℕ
 wrote (St width rv rb addr) stored k = byte_of addr stored k
 wrote (Rd addr len) stored k = byte_of addr stored k
-wrote (Mp page count) stored k = if is_among page count (k / 4096) then Some 0 else None
+wrote (Mp page count) stored k = if is_among page count (k / PAGE_BYTES) then Some 0 else None
 wrote _ stored k = None
 
 -- a byte has the value of the last entry that wrote it, and else that of the job's image
@@ -33,16 +36,10 @@ abbrev pub value : Job → List Entry → ℕ → ℕ
 value job [] k = image job k
 value job (e ∷ before) k = unwrap_or (wrote e.act.kind e.act.stored k) (value job before k)
 
--- what an event says of which pages are mapped
-abbrev pub mapped_by : Kind → (ℕ → Bool) → ℕ → Bool
-mapped_by (Mp page count) before = marked before page count true
-mapped_by (Um page count) before = marked before page count false
-mapped_by _ before = before
-
 -- a page is mapped as the last mp or um of it says, and else as at the start
 abbrev pub is_mapped : Job → List Entry → ℕ → Bool
 is_mapped job [] = is_in_runs (start_runs job)
-is_mapped job (e ∷ before) = mapped_by e.act.kind (is_mapped job before)
+is_mapped job (e ∷ before) = mapped_by (is_mapped job before) e.act.kind
 
 -- a block is live from its al to its fr
 abbrev pub blocks_by : Kind → (ℕ → Option ℕ) → ℕ → Option ℕ
@@ -70,7 +67,7 @@ output (e ∷ before) = output before ++ e.act.sent
 
 -- the byte at an address, where its page is mapped
 abbrev pub byte_at : Job → List Entry → ℕ → Option ℕ
-byte_at job entries k = if is_mapped job entries (k / 4096) then Some (value job entries k) else None
+byte_at job entries k = if is_mapped job entries (k / PAGE_BYTES) then Some (value job entries k) else None
 
 -- what the guest has after these entries
 abbrev pub state_after : Job → List Entry → State

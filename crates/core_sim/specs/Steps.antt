@@ -21,6 +21,7 @@ use Rattle.guest_kernel.specs.State.{State, changed_by, bytes_from}
 use Rattle.core_sim.specs.declared.hart.HartEnd.TheVariants.{Live, Exit, Fault}
 use Rattle.core_sim.specs.declared.hart.Standing.{Standing}
 use Rattle.core_sim.specs.Events.{kind_of}
+use Rattle.pl_base.specs.declared.layout.TheConstants.{PAGE_BYTES, TEXT_START}
 
 -- what a step came to: the kind of its event, the bytes that it wrote, the bytes that it sent outside, and the hart
 pub record Act : Type 0 where
@@ -39,11 +40,11 @@ faulted h cause addr = record { kind = Ft cause addr; stored = []; sent = []; ne
 
 -- the word of text that an address names
 abbrev pub word_at : List ℕ → ℕ → Option ℕ
-word_at words pc = if (pc % 4 == 0) && nat_le 0x10000 pc then slice_get words ((pc - 0x10000) / 4) else None
+word_at words pc = if (pc % 4 == 0) && nat_le TEXT_START pc then slice_get words ((pc - TEXT_START) / 4) else None
 
 -- none of so many bytes is text
 abbrev pub NoText : State → ℕ → ℕ → Type 0
-NoText s addr width = (k : ℕ) → addr ≤ k → k < addr + width → s.texts (k / 4096) ≡ false
+NoText s addr width = (k : ℕ) → addr ≤ k → k < addr + width → s.texts (k / PAGE_BYTES) ≡ false
 
 -- where a load is done, and where a store is
 pub record CanLoad (s : State) (addr width : ℕ) : Type 0 where

@@ -1,3 +1,4 @@
+//! The events of one step.
 use pl_event::Event;
 use std::marker::Model;
 

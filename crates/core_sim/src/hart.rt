@@ -1,3 +1,4 @@
+//! A hart of a run.
 use pl_base::FaultCause;
 use rv_exec::HartState;
 

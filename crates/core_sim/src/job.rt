@@ -1,3 +1,4 @@
+//! A job: its text, data, harts, schedule and input.
 use std::alloc::{AllocError, Global};
 use std::marker::Model;
 
@@ -137,7 +138,7 @@ impl Model for Bytes {
 }
 
 impl Bytes {
-    ghost use Rattle.std.specs.Prelude.{◌≡◌, [], ◌∷◌, ◌++◌, OnOk, OnErr};
+    ghost use Rattle.std.specs.Prelude.{◌≡◌, ◌<◌, ◌^◌, [], ◌∷◌, ◌++◌, All, OnOk, OnErr};
 
     pub fn new(alloc: Global) -> Bytes
         ensures { result ≡ [] }
@@ -149,7 +150,8 @@ impl Bytes {
 
     /// These bytes; no memory is taken.
     pub fn from_vec(items: Vec<u8>) -> Bytes
-        ensures { result ≡ items.items }
+        ensures bytes { result ≡ items.items }
+        ensures small { All (λ byte. byte < 2 ^ 8) result }
     {
         Bytes { items }
     }

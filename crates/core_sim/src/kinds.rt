@@ -1,3 +1,4 @@
+//! The kind of the event of an instruction.
 ghost use Rattle.std.specs.Prelude.{◌≡◌};
 ghost use Rattle.core_sim.specs.Events.{is_copy, cancels, kind_of};
 

@@ -1,3 +1,4 @@
+//! That a job has one run, and that its events are valid.
 // What holds of every job's run.
 ghost use Rattle.std.specs.Prelude.{◌≡◌, ◌∷◌, List, length};
 ghost use Rattle.pl_event.specs.Valid.{IsValidEvent};
@@ -15,5 +16,6 @@ pub fn one_run()
 
 /// Each event of a valid job's run is valid: its hart is one of the job's, and its fields are in their ranges.
 pub fn valid_events()
-    ensures { (job : Job) (before : List Entry) (e : Entry) → IsValidJob job → IsFront job (e ∷ before) → IsValidEvent (event_of e) job.harts }
+    ensures { (job : Job) (before : List Entry) (e : Entry) → IsValidJob job →
+        IsFront job (e ∷ before) → IsValidEvent (event_of e) job.harts }
 {}

@@ -1,3 +1,4 @@
+//! A job that is run step by step.
 ghost use Rattle.std.specs.Prelude.{◌≡◌, ◌≤◌, ◌<◌, [], List, IfOk, OnErr, length, slice_get, IfSome, IfNone};
 ghost use Rattle.core_sim.specs.declared.job.Job.{Job};
 ghost use Rattle.core_sim.specs.Entries.{Entry};
@@ -5,6 +6,7 @@ ghost use Rattle.core_sim.specs.Schedules.{items_of};
 ghost use Rattle.core_sim.specs.Start.{begin_from};
 ghost use Rattle.core_sim.specs.Stands.{Stands, Comes};
 ghost use Rattle.core_sim.specs.Valid.{IsValidJob};
+ghost use Rattle.pl_base.specs.declared.layout.TheConstants.{MAX_HARTS};
 
 use crate::group::{EventGroup, StepOut};
 use crate::hart::{HartEnd, Standing};
@@ -35,12 +37,21 @@ pub struct Machine {
 impl Model for Machine {
     ghost use Rattle.std.specs.Prelude.{◌≤◌, length};
     ghost use Rattle.core_sim.specs.Image.{MachineImage};
+    ghost use Rattle.pl_base.specs.declared.layout.TheConstants.{MAX_HARTS};
 
     ghost Value = { MachineImage };
 
-    ghost view = { λ m. record { words = m.text; kernel = m.kernel; harts = m.harts.items; items = m.items; turn = m.turn; limit = m.limit; steps = m.steps } };
+    ghost view = { λ m. record {
+      words = m.text;
+      kernel = m.kernel;
+      harts = m.harts.items;
+      items = m.items;
+      turn = m.turn;
+      limit = m.limit;
+      steps = m.steps;
+    } };
 
-    ghost invariant = { λ m. length m.harts.items ≤ 8 };
+    ghost invariant = { λ m. length m.harts.items ≤ MAX_HARTS };
 }
 
 impl Machine {
@@ -74,7 +85,8 @@ impl Machine {
     ///
     /// After `NoMemory` all is as before.
     pub fn step(&mut self) -> Result<StepOut, NoMemory>
-        ensures comes { IfOk result (λ out. (job : Job) (entries : List Entry) → Stands job entries self.old → Comes job entries self.old self.new out) }
+        ensures comes { IfOk result (λ out. (job : Job) (entries : List Entry) →
+            Stands job entries self.old → Comes job entries self.old self.new out) }
         ensures unchanged { OnErr result (self.new ≡ self.old) }
     {
         let Some(turn) = self.turn.of_step(self.items.as_slice(), &self.harts) else {
@@ -121,7 +133,7 @@ impl Machine {
 
 /// The harts at their entries.
 fn start_harts(alloc: Global, entries: &[u32]) -> Result<Vec<Standing>, NoMemory>
-    requires { length entries.now ≤ 8 }
+    requires { length entries.now ≤ MAX_HARTS }
     ensures { IfOk result (λ harts. harts.items ≡ begin_from 0 entries.now) }
 {
     let mut list = Vec::new(alloc);

@@ -1,12 +1,18 @@
-ghost use Rattle.std.specs.Prelude.{◌≡◌, ◌≤◌, All, IfOk, OnOk};
+//! What memory holds before the first step.
+ghost use Rattle.std.specs.Prelude.{◌≡◌, ◌/◌, ◌<◌, ◌≤◌, All, IfOk, OnOk};
 ghost use Rattle.guest_mem.specs.Memory.{mapped};
+ghost use Rattle.pl_event.specs.OpeningPages.{RiseFrom, pages_in};
 ghost use Rattle.core_sim.specs.Valid.{IsValidJob};
 ghost use Rattle.core_sim.specs.Start.{start_runs, pages_of, text_bytes};
 ghost use Rattle.core_sim.specs.Mapping.{IsStartMemory, CanMapRun, CanMapRuns, MapsRun, MapsRuns};
+ghost use Rattle.pl_base.specs.declared.layout.TheConstants.{MEMORY_BYTES, MAX_DATA_BYTES, MAX_MAPPED_PAGES};
 
 use crate::job::Job;
 use guest_mem::{MapFault, PagedMem};
 use pl_base::NoMemory;
+use pl_base::layout::{
+    DATA_START, HEAP_END, HEAP_START, PAGE_BYTES, STACK_BYTES, STACKS_START, TEXT_START,
+};
 use pl_event::{PageKind, PageRun};
 use std::alloc::Global;
 
@@ -17,40 +23,50 @@ use std::alloc::Global;
 /// `NoMemory` where none was left for the list.
 pub fn start_pages(alloc: Global, job: &Job) -> Result<Vec<PageRun>, NoMemory>
     requires { IsValidJob job.now }
-    ensures { IfOk result (λ runs. runs.items ≡ start_runs job.now) }
+    ensures runs { IfOk result (λ runs. runs.items ≡ start_runs job.now) }
+    ensures rising { IfOk result (λ runs. RiseFrom 0 runs.items) }
+    ensures few { IfOk result (λ runs. pages_in runs.items ≤ MAX_MAPPED_PAGES) }
 {
     let mut runs = Vec::with_capacity(alloc, 4)?;
     runs.push(PageRun {
-        first: 16,
+        first: page_of(TEXT_START),
         count: page_count(4 * job.words.as_slice().len()),
         kind: PageKind::Data,
     })?;
     if !job.data_bytes.as_slice().is_empty() {
         runs.push(PageRun {
-            first: 256,
+            first: page_of(DATA_START),
             count: page_count(job.data_bytes.as_slice().len()),
             kind: PageKind::Data,
         })?;
     }
     runs.push(PageRun {
-        first: 1024,
-        count: 256,
+        first: page_of(HEAP_START),
+        count: page_of(HEAP_END - HEAP_START),
         kind: PageKind::Heap,
     })?;
     runs.push(PageRun {
-        first: 3840,
-        count: u16::from(job.harts) * 4,
+        first: page_of(STACKS_START),
+        count: page_of(STACK_BYTES) * u16::from(job.harts),
         kind: PageKind::Stack,
     })?;
     Ok(runs)
 }
 
+/// The page of an address of memory.
+fn page_of(address: u32) -> u16
+    requires { address < MEMORY_BYTES }
+    ensures { result ≡ address / PAGE_BYTES }
+{
+    (address / PAGE_BYTES) as u16
+}
+
 /// How many pages so many bytes take.
 fn page_count(bytes: usize) -> u16
-    requires { bytes ≤ 262144 }
+    requires { bytes ≤ MAX_DATA_BYTES }
     ensures { result ≡ pages_of bytes }
 {
-    bytes.div_ceil(4096) as u16
+    bytes.div_ceil(PAGE_BYTES as usize) as u16
 }
 
 /// The memory at the start: zeros, the text and the data.
@@ -63,8 +79,8 @@ pub fn start_memory(alloc: Global, job: &Job) -> Result<PagedMem, NoMemory>
     let mut mem = PagedMem::new(alloc)?;
     map_run(&mut mem, runs[0], true)?;
     map_runs(&mut mem, &runs[1..])?;
-    mem.fill(0x1_0000, &text);
-    mem.fill(0x10_0000, job.data_bytes.as_slice());
+    mem.fill(TEXT_START, &text);
+    mem.fill(DATA_START, job.data_bytes.as_slice());
     Ok(mem)
 }
 

@@ -1,3 +1,4 @@
+//! One step of a hart with all its effects.
 ghost use Rattle.std.specs.Prelude.{◌≡◌, ◌==◌, ◌%◌, IfOk, OnErr};
 ghost use Rattle.pl_base.specs.Widths.{load_bytes, store_bytes};
 ghost use Rattle.rv_isa.specs.Valid.{IsValid};
@@ -16,11 +17,12 @@ use pl_event::Kind;
 use rv_exec::{HartState, Wanted, advance, end_call, end_load, end_store};
 use rv_isa::Instr;
 
-/// Takes one step of a hart, and gives the kind of its event. After want of memory the kernel and the hart are as
+/// Takes one step of a hart, and gives the kind of its event. Where memory ran out the kernel and the hart are as
 /// before.
 #[inline]
 pub fn execute(text: &Text, kernel: &mut Kernel, hart: &mut Standing) -> Result<Kind, NoMemory>
-    ensures did { IfOk result (λ kind. Does text.now (state_of kernel.old) (state_of kernel.new) hart.old.state (did kind hart.new)) }
+    ensures did { IfOk result
+        (λ kind. Does text.now (state_of kernel.old) (state_of kernel.new) hart.old.state (did kind hart.new)) }
     ensures kernel { OnErr result (kernel.new ≡ kernel.old) }
     ensures hart { OnErr result (hart.new ≡ hart.old) }
 {
@@ -69,7 +71,8 @@ fn fault(hart: &mut Standing, cause: FaultCause, addr: u32) -> Kind
 fn load(kernel: &Kernel, hart: &mut Standing, instr: &Instr, addr: u32) -> Kind
     requires valid { IsValid instr.now }
     requires load { IsLoad instr.now }
-    ensures { DoesEffect (state_of kernel.now) (state_of kernel.now) hart.old.state (Effect.Load instr.now addr) (did result hart.new) }
+    ensures { DoesEffect (state_of kernel.now) (state_of kernel.now)
+        hart.old.state (Effect.Load instr.now addr) (did result hart.new) }
 {
     let Instr::Load {
         width,
@@ -114,7 +117,8 @@ fn is_load_aligned(width: LoadWidth, addr: u32) -> bool
 #[inline]
 fn store(kernel: &mut Kernel, hart: &mut Standing, instr: &Instr, addr: u32, value: u32) -> Kind
     requires { IsStore instr.now }
-    ensures { DoesEffect (state_of kernel.old) (state_of kernel.new) hart.old.state (Effect.Store instr.now addr value) (did result hart.new) }
+    ensures { DoesEffect (state_of kernel.old) (state_of kernel.new)
+        hart.old.state (Effect.Store instr.now addr value) (did result hart.new) }
 {
     let Instr::Store {
         width,
@@ -158,7 +162,8 @@ fn is_store_aligned(width: StoreWidth, addr: u32) -> bool
 
 /// Calls the kernel.
 fn call(kernel: &mut Kernel, hart: &mut Standing) -> Result<Kind, NoMemory>
-    ensures did { IfOk result (λ kind. DoesEffect (state_of kernel.old) (state_of kernel.new) hart.old.state Effect.Call (did kind hart.new)) }
+    ensures did { IfOk result (λ kind. DoesEffect (state_of kernel.old)
+        (state_of kernel.new) hart.old.state Effect.Call (did kind hart.new)) }
     ensures kernel { OnErr result (kernel.new ≡ kernel.old) }
     ensures hart { OnErr result (hart.new ≡ hart.old) }
 {

@@ -1,13 +1,12 @@
+//! The text of a job, read once.
 ghost use Rattle.std.specs.Prelude.{◌≡◌, IfOk, map};
 ghost use Rattle.rv_isa.specs.Table.{instruction_of};
 
 use pl_base::NoMemory;
+use pl_base::layout::TEXT_START;
 use rv_isa::{Instr, decode};
 use std::alloc::Global;
 use std::marker::Model;
-
-/// The address of the first word of text.
-const TEXT: u32 = 0x1_0000;
 
 /// A text that was read once: its words, and beside each the instruction that it is, or none.
 #[derive(Drop)]
@@ -50,10 +49,10 @@ impl Text {
         ensures some { IfSome result (IsPlace self.now pc) }
         ensures none { IfNone result (word_at self.now pc ≡ None) }
     {
-        if pc % 4 != 0 || pc < TEXT {
+        if pc % 4 != 0 || pc < TEXT_START {
             return None;
         }
-        let place = ((pc - TEXT) / 4) as usize;
+        let place = ((pc - TEXT_START) / 4) as usize;
         if place < self.words.len() {
             Some(place)
         } else {

@@ -1,11 +1,13 @@
+//! Whose turn it is.
 ghost use Rattle.std.specs.Prelude.{◌≡◌, ◌≤◌, ◌<◌, ◌&&◌, Some, length, drop, find, count_by, slice_get, nat_le, nat_lt, IfSome, IfNone};
 ghost use Rattle.core_sim.specs.Harts.{is_live, live_harts, is_among_live};
 ghost use Rattle.core_sim.specs.Schedules.{round_turn, listed_turn, drawn_turn, turn_of_step, stepped, drawn, no_turn, IsTurnOf};
+ghost use Rattle.pl_base.specs.declared.layout.TheConstants.{MAX_HARTS};
 
 use crate::hart::Standing;
 use crate::job::{Item, Schedule};
 
-/// Where a schedule stands between two turns.
+/// Where a schedule is between two turns.
 #[derive(Clone, Copy, Debug, PartialEq, Eq)]
 pub enum Place {
     /// Turns of `q` steps go round; the next one goes to the first live hart from `from` on, and else to the first.
@@ -16,7 +18,7 @@ pub enum Place {
     Drawn { x: u32, q: u32 },
 }
 
-/// A turn: its hart, how many steps are left of it, and where the schedule stands behind it.
+/// A turn: its hart, how many steps are left of it, and where the schedule is after it.
 #[derive(Clone, Copy, Debug, PartialEq, Eq)]
 pub struct Turn {
     pub hart: u8,
@@ -44,7 +46,7 @@ impl Turn {
     /// The turn that the next step belongs to; none exactly where no hart is live.
     #[inline]
     pub fn of_step(&self, items: &[Item], harts: &[Standing]) -> Option<Turn>
-        requires { length harts.now ≤ 8 }
+        requires { length harts.now ≤ MAX_HARTS }
         ensures { IsTurnOf harts.now (turn_of_step items.now self.now (live_harts harts.now)) result }
     {
         if self.goes_on(harts) {
@@ -92,7 +94,7 @@ fn is_live(harts: &[Standing], hart: u8) -> bool
 
 /// A turn of a round.
 fn around(harts: &[Standing], q: u32, from: u32) -> Option<Turn>
-    requires { length harts.now ≤ 8 }
+    requires { length harts.now ≤ MAX_HARTS }
     ensures { IsTurnOf harts.now (round_turn q from (live_harts harts.now)) result }
 {
     let hart = match first_from(harts, from) {
@@ -111,7 +113,7 @@ fn around(harts: &[Standing], q: u32, from: u32) -> Option<Turn>
 
 /// The first live hart from a number on.
 fn first_from(harts: &[Standing], from: u32) -> Option<u8>
-    requires { length harts.now ≤ 8 }
+    requires { length harts.now ≤ MAX_HARTS }
     ensures first { result ≡ find (λ hart. nat_le from hart) (live_harts harts.now) }
     ensures within { IfSome result (λ hart. hart < length harts.now) }
 {
@@ -130,9 +132,9 @@ fn is_live_from(hart: &Standing, number: usize, from: u32) -> bool
     from as usize <= number && hart.end.is_live()
 }
 
-/// The turn of the first item of a live hart from place `at` of the list on, or the first turn behind the list.
+/// The turn of the first item of a live hart from place `at` of the list on, or the first turn after the list.
 fn listed(items: &[Item], at: usize, harts: &[Standing]) -> Option<Turn>
-    requires { length harts.now ≤ 8 }
+    requires { length harts.now ≤ MAX_HARTS }
     ensures { IsTurnOf harts.now (listed_turn at (drop at items.now) (live_harts harts.now)) result }
 {
     let mut next = at;
@@ -159,7 +161,7 @@ pub fn next_draw(x: u32) -> u32
 
 /// A turn of the live hart at the place that a number names.
 fn drawn(harts: &[Standing], x: u32, q: u32) -> Option<Turn>
-    requires { length harts.now ≤ 8 }
+    requires { length harts.now ≤ MAX_HARTS }
     ensures { IsTurnOf harts.now (drawn_turn x q (live_harts harts.now)) result }
 {
     let count = count_live(harts);
@@ -176,7 +178,7 @@ fn drawn(harts: &[Standing], x: u32, q: u32) -> Option<Turn>
 
 /// How many harts are live.
 fn count_live(harts: &[Standing]) -> u32
-    requires { length harts.now ≤ 8 }
+    requires { length harts.now ≤ MAX_HARTS }
     ensures { result ≡ count_by (λ hart. is_live hart.end) harts.now }
 {
     harts.iter().filter(|hart| hart.end.is_live()).count() as u32
@@ -184,7 +186,7 @@ fn count_live(harts: &[Standing]) -> u32
 
 /// The live hart with so many live ones below it.
 fn nth_live(harts: &[Standing], n: u32) -> Option<u8>
-    requires { length harts.now ≤ 8 }
+    requires { length harts.now ≤ MAX_HARTS }
     ensures nth { IfSome result (λ hart. slice_get (live_harts harts.now) n ≡ Some hart) }
     ensures within { IfSome result (λ hart. hart < length harts.now) }
     ensures none { IfNone result (length (live_harts harts.now) ≤ n) }

@@ -15,7 +15,7 @@ use Rattle.rv_isa.specs.declared.instruction.RegOp.{RegOp}
 use Rattle.rv_isa.specs.declared.instruction.RegOp.TheVariants as registers
 use Rattle.rv_isa.specs.Valid.{IsValid, IsWithin}
 use Rattle.core_sim.specs.declared.job.Job.{Job}
-use Rattle.core_sim.specs.Valid.{IsSchedule, IsValidJob}
+use Rattle.core_sim.specs.Valid.{IsSchedule, HasTypedNumbers, IsValidJob}
 use Rattle.guest_asm.specs.declared.action.Action.{Action}
 use Rattle.guest_asm.specs.declared.action.Action.TheVariants.{LoadWord, StoreWord, LoadByte, Add, StoreBlock, LoadBlock, Read, Xor}
 use Rattle.guest_asm.specs.Jobs.{coded}
@@ -165,8 +165,9 @@ valid-program s z = valid-harts s z (range_with_len 0 4)
 words-length : (s z : ℕ) (job : Job) → IsGenerated s z job → length job.words ≡ length (program s z)
 words-length s z job of = length-cells (map (λ i. coded i) (program s z)) job.words of.text ∙ length-map (program s z) (λ i. coded i)
 
-pub valid_generated : (s z : ℕ) (job : Job) → s < 2 ^ 32 → z ≤ 1000 → IsGenerated s z job → IsValidJob job
-valid_generated s z job drawn few of = record {
+pub valid_generated : (s z : ℕ) (job : Job) → s < 2 ^ 32 → z ≤ 1000 → IsGenerated s z job → HasTypedNumbers job → IsValidJob job
+valid_generated s z job drawn few of typed = record {
+  typed = typed;
   some_harts = omega (arith, of.harts);
   few_harts = omega (arith, of.harts);
   turns = subst (IsSchedule job.harts) (sym of.schedule) (drawn, (omega arith, omega arith));

@@ -5,7 +5,7 @@ use Rattle.std.proofs.lemmas.Bool.{and_parts, or_parts, not-false, leb-true, ltb
 use Rattle.core_sim.specs.declared.job.Job.{Job}
 use Rattle.core_sim.specs.declared.job.Schedule.{Schedule}
 use Rattle.core_sim.specs.declared.job.Schedule.TheVariants as schedule
-use Rattle.core_sim.specs.Valid.{IsQuantum, IsTurn, IsSchedule, IsValidJob}
+use Rattle.core_sim.specs.Valid.{IsQuantum, IsTurn, IsSchedule, HasTypedNumbers, IsValidJob}
 use Rattle.guest_asm.specs.declared.number.Number.{Number}
 use Rattle.guest_asm.specs.declared.statement.Turn.{Turn}
 use Rattle.guest_asm.specs.declared.statement.Statement.{Statement}
@@ -148,9 +148,9 @@ some_schedule lines passed = found_schedule (statements_of lines) (complete_from
 pub some_steps : (lines : List Meaning) → Passed lines → IsSome (first_of steps_in (statements_of lines))
 some_steps lines passed = found_steps (statements_of lines) (complete_from (statements_of lines) (place_of lines).words passed.complete).steps
 
-pub valid_job : (lines : List Meaning) (scan : Scan) (job : Job) → Passed lines → Keeps lines scan → IsDrawn job.schedule
+pub valid_job : (lines : List Meaning) (scan : Scan) (job : Job) → Passed lines → Keeps lines scan → IsDrawn job.schedule → HasTypedNumbers job
     → IsJobOfRows (labels_of lines) (rows_of lines) (statements_of lines) job → IsValidJob job
-valid_job lines scan job passed keeps drawn of =
+valid_job lines scan job passed keeps drawn typed of =
     let ss = statements_of lines in
     let sound = passed.sound in
     let whole = complete_from ss (place_of lines).words passed.complete in
@@ -161,6 +161,7 @@ valid_job lines scan job passed keeps drawn of =
     let words_few : (place_of lines).words ≤ 16384 = subst (λ (p : Place). p.words ≤ 16384) keeps.place keeps.words in
     let bytes_few : (place_of lines).bytes ≤ 262144 = subst (λ (p : Place). p.bytes ≤ 262144) keeps.place keeps.bytes in
     record {
+      typed = typed;
       some_harts = omega (arith, of.harts, sound.some whole.full);
       few_harts = omega (arith, of.harts, sound.few);
       turns = subst (λ (h : ℕ). IsSchedule h job.schedule) (sym of.harts) (scheduled (harts_in ss) ss job.schedule sound.ranges drawn of.schedule);

@@ -2,7 +2,7 @@
 use Rattle.std.proofs.Common.{◌≡◌, ℕ, suc, zero, ◌≤◌, false, List, [], ◌∷◌, map, Result, Ok, Err, IfOk, IsSome, ap, ◌∙◌, sym, subst, arith}
 use Rattle.std.specs.List.{All}
 use Rattle.core_sim.specs.declared.job.Job.{Job}
-use Rattle.core_sim.specs.Valid.{IsValidJob}
+use Rattle.core_sim.specs.Valid.{HasTypedNumbers, IsValidJob}
 use Rattle.guest_asm.specs.declared.cause.JobFault.{JobFault}
 use Rattle.guest_asm.specs.declared.cause.JobRefused.{JobRefused}
 use Rattle.guest_asm.specs.declared.cause.JobRefused.TheVariants as refused
@@ -75,8 +75,8 @@ module _ (bytes : List ℕ) (scan : Scan) (lines : List Meaning) (told : first_p
       let here = of_lines job of in
       record { lines = lines; passed = then_second (Ok here.text.cells) here.text.passed; job_of = here }
 
-  pub valid_of : (job : Job) → IsJobOfRows (defined scan.labels) (map placed scan.rows.items) (statements_in scan.rows.items) job → IsDrawn job.schedule → IsValidJob job
-  valid_of job of drawn = valid_job lines scan job ended keeps drawn (of_lines job of)
+  pub valid_of : (job : Job) → IsJobOfRows (defined scan.labels) (map placed scan.rows.items) (statements_in scan.rows.items) job → IsDrawn job.schedule × HasTypedNumbers job → IsValidJob job
+  valid_of job of (drawn, typed) = valid_job lines scan job ended keeps drawn typed (of_lines job of)
 
   pub fault_of : (fault : JobFault) → second_pass (defined scan.labels) (map placed scan.rows.items) ≡ Err fault → HasFault bytes fault
   fault_of fault e =

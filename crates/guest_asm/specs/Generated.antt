@@ -14,6 +14,7 @@ use Rattle.guest_asm.specs.declared.action.Action.{Action}
 use Rattle.guest_asm.specs.declared.action.Action.TheVariants.{LoadWord, StoreWord, LoadByte, Add, StoreBlock, LoadBlock, Read, Xor}
 use Rattle.guest_asm.specs.Codes.{lui_of, addi_of}
 use Rattle.guest_asm.specs.Jobs.{coded, AreCells}
+use Rattle.pl_base.specs.declared.layout.TheConstants.{TEXT_START, DATA_START, MAX_STEPS}
 
 -- the registers of the code, by their numbers
 abbrev pub t0 : ℕ
@@ -68,7 +69,7 @@ abbrev pub action_numbered : ℕ → Action
 action_numbered number = get_or actions number Xor
 
 -- how far into data, and how far from the beginning of the hart's block, the word lies that an action names: data has
--- 64 words, and the block 16, so that the last four lie behind it
+-- 64 words, and the block 16, so that the last four lie after it
 abbrev pub into_data : ℕ → ℕ
 into_data k = 4 * k
 
@@ -92,7 +93,7 @@ action_at x i = instructions_of (action_numbered (choice 8 (drawn_after x (2 * i
 
 -- the address of data into s0, and that of a new block of 64 bytes into s1
 abbrev pub setup : List Instr
-setup = lui_of s0 0x100000 ∷ addi_of s0 0x100000 ∷ set_to a7 (pos 2) ∷ set_to a0 (pos 64) ∷ instr.Ecall ∷ add_to s1 a0 (pos 0) ∷ []
+setup = lui_of s0 DATA_START ∷ addi_of s0 DATA_START ∷ set_to a7 (pos 2) ∷ set_to a0 (pos 64) ∷ instr.Ecall ∷ add_to s1 a0 (pos 0) ∷ []
 
 -- the hart ends
 abbrev pub finish : List Instr
@@ -102,26 +103,26 @@ finish = set_to a7 (pos 1) ∷ instr.Ecall ∷ []
 abbrev pub hart_code : ℕ → ℕ → List Instr
 hart_code x z = setup ++ flat_map (action_at x) (range_with_len 0 z) ++ finish
 
--- the code of the first harts; a hart's draws come behind two for each action of the harts before it
+-- the code of the first harts; a hart's draws come after two for each action of the harts before it
 abbrev pub code_of_first : ℕ → ℕ → ℕ → List Instr
 code_of_first s z harts = flat_map (λ hart. hart_code (drawn_after s (2 * z * hart)) z) (range_with_len 0 harts)
 
 abbrev pub program : ℕ → ℕ → List Instr
 program s z = code_of_first s z 4
 
--- a hart begins behind the code of the harts before it
+-- a hart begins after the code of the harts before it
 abbrev pub entry : ℕ → ℕ → ℕ → ℕ
-entry s z hart = 0x10000 + 4 * length (code_of_first s z hart)
+entry s z hart = TEXT_START + 4 * length (code_of_first s z hart)
 
 -- the entries of the four harts, and the beginning of text for those that are none
 abbrev pub entries : ℕ → ℕ → List ℕ
-entries s z = map (entry s z) (range_with_len 0 4) ++ replicate 4 0x10000
+entries s z = map (entry s z) (range_with_len 0 4) ++ replicate 4 TEXT_START
 
 -- the job is that of the number s, with z actions for each hart
 pub record IsGenerated (s z : ℕ) (job : Job) : Type 0 where
   pub harts : job.harts ≡ 4
   pub schedule : job.schedule ≡ schedule.Seed s 5
-  pub steps : job.steps ≡ 250000
+  pub steps : job.steps ≡ MAX_STEPS
   pub text : AreCells (map (λ i. coded i) (program s z)) job.words
   pub data_bytes : job.data_bytes ≡ replicate 256 0
   pub input : job.input ≡ range_with_len 0 64

@@ -29,6 +29,7 @@ use Rattle.guest_asm.specs.Codes.{lui_of, addi_of}
 use Rattle.guest_asm.specs.Lines.{Meaning, line_of}
 use Rattle.guest_asm.specs.Rules.{is_text, is_data, harts_in, statements_of, start, after, place_of, text_address, labels_of, broken, lacks}
 use Rattle.guest_asm.specs.Faults.{is_far, target, IsFirstPassFault, IsSecondPassFault}
+use Rattle.pl_base.specs.declared.layout.TheConstants.{TEXT_START, MAX_HARTS}
 
 infixl 10 ◌>>=◌
 abbrev pub ◌>>=◌ : {A B E : Type 0} → Result A E → (A → Result B E) → Result B E
@@ -38,7 +39,7 @@ abbrev pub ◌>>=◌ : {A B E : Type 0} → Result A E → (A → Result B E) �
 abbrev pub fault_at : ℕ → JobCause → JobFault
 fault_at line c = record { line = line; cause = c }
 
--- a line in the grammar that breaks no rule behind these lines
+-- a line in the grammar that breaks no rule after these lines
 abbrev pub unless_broken : Meaning → Option JobCause → Result Meaning JobCause
 unless_broken m None = Ok m
 unless_broken m (Some c) = Err c
@@ -50,7 +51,7 @@ judged_meaning before (Some m) = unless_broken m (broken before m)
 abbrev pub judged : List Meaning → List ℕ → Result Meaning JobCause
 judged before text = judged_meaning before (line_of text)
 
--- a fault of the line behind these
+-- a fault of the line after these
 abbrev pub behind : {A : Type 0} → List Meaning → Result A JobCause → Result A JobFault
 behind before (Ok x) = Ok x
 behind before (Err c) = Err (fault_at (length before + 1) c)
@@ -58,7 +59,7 @@ behind before (Err c) = Err (fault_at (length before + 1) c)
 abbrev pub complete : List Meaning → Result (List Meaning) JobCause
 complete before = if lacks (statements_of before) (place_of before).words then Err cause.Missing else Ok before
 
--- the first pass: what the lines mean, or the first line with a fault; the end is the line behind the last
+-- the first pass: what the lines mean, or the first line with a fault; the end is the line after the last
 abbrev pub first_pass : List Meaning → List (List ℕ) → Result (List Meaning) JobFault
 first_pass before [] = behind before (complete before)
 first_pass before (text ∷ texts) = behind before (judged before text) >>= λ m. first_pass (before ++ m ∷ []) texts
@@ -79,7 +80,7 @@ abbrev pub row_with : ℕ → Place → Option (List ℕ) → Option Statement �
 row_with line place named None = []
 row_with line place named (Some s) = record { line = line; at = text_address place; section = place.section; statement = s; named = named } ∷ []
 
--- the statements of lines where they stand
+-- the statements of lines in their places
 abbrev pub rows_from : ℕ → Place → List Meaning → List Placed
 rows_from line place [] = []
 rows_from line place (m ∷ lines) = row_with line place m.named m.statement ++ rows_from (line + 1) (after place m) lines
@@ -190,7 +191,7 @@ abbrev pub entry_after : List (List ℕ × ℕ) → List ℕ → Placed → List
 entry_after labels entries r = entry_in (unwrap_or (target labels r.named) 0) r.statement entries
 
 abbrev pub entries_of : List (List ℕ × ℕ) → List Placed → List ℕ
-entries_of labels rows = fold (entry_after labels) (replicate 8 0x10000) rows
+entries_of labels rows = fold (entry_after labels) (replicate MAX_HARTS TEXT_START) rows
 
 -- what the lines of a text without a fault mean, or its first fault
 abbrev pub passes : List ℕ → Result (List Meaning) JobFault
@@ -236,11 +237,11 @@ pub record Appends (old new : List ℕ) (emitted : Result (List Cell) JobCause) 
   pub is_appended : new ≡ old ++ words
   pub are_cells : AreCells cells words
 
--- each byte is one, and each hart is one of 8
+-- each byte is one, and each hart is one that there may be
 abbrev pub IsSmall : Statement → Type 0
 IsSmall (statement.Byte numbers) = All (λ n. n.bits < 256) numbers
 IsSmall (statement.List turns) = All (λ t. t.hart.bits < 256) turns
-IsSmall (statement.Entry hart) = hart.bits < 8
+IsSmall (statement.Entry hart) = hart.bits < MAX_HARTS
 IsSmall _ = Unit {0}
 
 abbrev pub IsSmallRow : Row → Type 0

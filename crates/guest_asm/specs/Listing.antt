@@ -5,6 +5,7 @@ use Rattle.rv_isa.specs.declared.instruction.Instr.{Instr}
 use Rattle.rv_isa.specs.Table.{instruction_of}
 use Rattle.rv_isa.specs.Listing.{text}
 use Rattle.core_sim.specs.declared.job.Job.{Job}
+use Rattle.pl_base.specs.declared.layout.TheConstants.{TEXT_START}
 
 abbrev pub hex : ℕ → List ℕ
 hex n = digits 16 false n
@@ -34,4 +35,4 @@ lines_from address [] = []
 lines_from address (word ∷ words) = line_text address word ++ lines_from (address + 4) words
 
 abbrev pub listing_of : Job → List ℕ
-listing_of job = lines_from 0x10000 job.words
+listing_of job = lines_from TEXT_START job.words

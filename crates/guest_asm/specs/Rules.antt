@@ -16,6 +16,7 @@ use Rattle.guest_asm.specs.declared.cause.JobCause.{JobCause}
 use Rattle.guest_asm.specs.declared.cause.JobCause.TheVariants as cause
 use Rattle.guest_asm.specs.Numbers.{is_within}
 use Rattle.guest_asm.specs.Lines.{Meaning}
+use Rattle.pl_base.specs.declared.layout.TheConstants.{TEXT_START, DATA_START, MAX_HARTS, MAX_STEPS, MAX_TEXT_WORDS, MAX_DATA_BYTES}
 
 -- the statements of rows
 abbrev pub statements_in : List Row → List Statement
@@ -30,7 +31,7 @@ is_harts (statement.Harts n) = true
 is_harts _ = false
 
 abbrev pub is_good_harts : Statement → Bool
-is_good_harts (statement.Harts n) = is_within 1 8 n
+is_good_harts (statement.Harts n) = is_within 1 MAX_HARTS n
 is_good_harts _ = false
 
 abbrev pub is_schedule : Statement → Bool
@@ -81,7 +82,7 @@ abbrev pub is_quantum : Number → Bool
 is_quantum n = is_within 1 65535 n
 
 abbrev pub is_turn : ℕ → Turn → Bool
-is_turn harts t = is_hart harts t.hart && is_within 1 250000 t.count
+is_turn harts t = is_hart harts t.hart && is_within 1 MAX_STEPS t.count
 
 abbrev pub are_turns : ℕ → List Turn → Bool
 are_turns harts turns = list_all (is_turn harts) turns
@@ -94,10 +95,10 @@ abbrev pub is_out_of_range : ℕ → Statement → Bool
 is_out_of_range harts (statement.Rr q) = not (is_quantum q)
 is_out_of_range harts (statement.List turns) = not (are_turns harts turns)
 is_out_of_range harts (statement.Seed n q) = n.negative || not (is_quantum q)
-is_out_of_range harts (statement.Steps n) = not (is_within 1 250000 n)
+is_out_of_range harts (statement.Steps n) = not (is_within 1 MAX_STEPS n)
 is_out_of_range harts (statement.Entry hart) = not (is_hart harts hart)
 is_out_of_range harts (statement.Byte numbers) = not (are_bytes numbers)
-is_out_of_range harts (statement.Space n) = not (is_within 0 262144 n)
+is_out_of_range harts (statement.Space n) = not (is_within 0 MAX_DATA_BYTES n)
 is_out_of_range harts _ = false
 
 abbrev pub is_text : Option Section → Bool
@@ -143,7 +144,9 @@ bytes_of s _ = 0
 
 -- more than 16,384 words or 262,144 bytes
 abbrev pub overfills : Place → Statement → Bool
-overfills place s = nat_lt 16384 (place.words + words_of place.section s) || nat_lt 262144 (place.bytes + bytes_of place.section s)
+overfills place s =
+    nat_lt MAX_TEXT_WORDS (place.words + words_of place.section s)
+    || nat_lt MAX_DATA_BYTES (place.bytes + bytes_of place.section s)
 
 -- before the first line
 abbrev pub start : Place
@@ -168,16 +171,16 @@ after_optional place (Some s) = after_statement place s
 abbrev pub after : Place → Meaning → Place
 after place m = after_optional place m.statement
 
--- what stands before the line behind these
+-- the place before the line that follows these
 abbrev pub place_of : List Meaning → Place
 place_of before = fold after start before
 
 -- text begins at 10000 and data at 100000 hex
 abbrev pub text_address : Place → ℕ
-text_address place = 0x10000 + 4 * place.words
+text_address place = TEXT_START + 4 * place.words
 
 abbrev pub address_in : Place → ℕ
-address_in place = if is_data place.section then 0x100000 + place.bytes else text_address place
+address_in place = if is_data place.section then DATA_START + place.bytes else text_address place
 
 -- the labels that lines define, with their addresses, in order
 abbrev pub label_with : ℕ → Option (List ℕ) → List (List ℕ × ℕ)
@@ -207,7 +210,7 @@ on_statement test (Some s) = test s
 abbrev pub has_stray_label : Place → Meaning → Bool
 has_stray_label place m = is_some m.label && is_none place.section
 
--- whether a line breaks a rule behind these statements at this place; `again` says that its label is defined already
+-- whether a line breaks a rule after these statements at this place; `again` says that its label is defined already
 abbrev pub breaks : List Statement → Place → Bool → Meaning → JobCause → Bool
 breaks before place again m cause.Harts = on_statement (breaks_harts before) m.statement
 breaks before place again m cause.Twice = again || on_statement (repeats before) m.statement
@@ -224,7 +227,7 @@ breaks before place again m cause.Far = false
 unfoldable pub broken_at : List Statement → Place → Bool → Meaning → Option JobCause
 broken_at before place again m = find (breaks before place again m) (cause.Harts ∷ cause.Twice ∷ cause.Range ∷ cause.Section ∷ cause.Align ∷ cause.Full ∷ [])
 
--- the first rule that a line breaks behind the lines before it
+-- the first rule that a line breaks after the lines before it
 abbrev pub broken : List Meaning → Meaning → Option JobCause
 broken before m = broken_at (statements_of before) (place_of before) (is_again (labels_of before) m.label) m
 

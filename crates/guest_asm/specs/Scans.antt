@@ -1,4 +1,4 @@
--- What the first pass keeps of the lines behind which it stands.
+-- What the first pass keeps of the lines that it has read.
 use Rattle.std.specs.Prelude.{◌≡◌, ℕ, ◌≤◌, List, map, All}
 use Rattle.std.specs.Borrow.{Bor}
 use Rattle.indexmap.specs.IndexMap.{IndexMap}
@@ -8,6 +8,7 @@ use Rattle.guest_asm.specs.Lines.{Meaning}
 use Rattle.guest_asm.specs.Statements.{IsValidStatement}
 use Rattle.guest_asm.specs.Rules.{labels_of, place_of}
 use Rattle.guest_asm.specs.Jobs.{placed, rows_of}
+use Rattle.pl_base.specs.declared.layout.TheConstants.{MAX_TEXT_WORDS, MAX_DATA_BYTES}
 
 -- labels with their addresses, in the order of their definition
 abbrev pub defined : {S : Type 0} → IndexMap (Bor (List ℕ)) ℕ S → List (List ℕ × ℕ)
@@ -21,6 +22,6 @@ pub record Keeps (before : List Meaning) (scan : Scan) : Type 0 where
   pub rows : map placed scan.rows.items ≡ rows_of before
   pub place : scan.place ≡ place_of before
   pub labels : defined scan.labels ≡ labels_of before
-  pub words : scan.place.words ≤ 16384
-  pub bytes : scan.place.bytes ≤ 262144
+  pub words : scan.place.words ≤ MAX_TEXT_WORDS
+  pub bytes : scan.place.bytes ≤ MAX_DATA_BYTES
   pub valid : All IsValidRow scan.rows.items

@@ -1,3 +1,4 @@
+//! From statements to a job.
 ghost use Rattle.std.specs.Prelude.{◌≡◌, ◌≤◌, ◌<◌, ◌^◌, ◌%◌, ◌++◌, [], map, replicate, All, IfSome, IfOk, OnOk, IsSome, if◌then◌else◌, pos, neg_ℤ, ◌≤ℤ◌, ◌<ℤ◌, unsigned_abs};
 ghost use Rattle.std.specs.Option.{option_copied};
 ghost use Rattle.std.specs.Int.{w32, to_le_bytes};
@@ -8,16 +9,18 @@ ghost use Rattle.guest_asm.specs.Rules.{statements_in, harts_in, is_text, is_dat
 ghost use Rattle.guest_asm.specs.Faults.{target};
 ghost use Rattle.guest_asm.specs.Jobs.{placed, raw, offset, instructions, AreValid, second_cell, near, statement_cells, on_line, second_pass, Appends, IsTextOf, IsSmall, IsSmallRow, data_of, input_in, item_of, schedule_in, steps_in, first_of, entry_in, entries_of, IsJobOfRows, IsDrawn, IfFault};
 ghost use Rattle.guest_asm.specs.Scans.{defined, IsValidRow};
+ghost use Rattle.pl_base.specs.declared.layout.TheConstants.{MAX_HARTS};
+ghost use Rattle.core_sim.specs.Valid.{HasTypedNumbers};
 
 use crate::cause::{JobCause, JobRefused, refused};
 use crate::code::{Code, addi_of, lui_of};
-use crate::layout::TEXT;
 use crate::number::Number;
 use crate::rules::harts_in;
 use crate::scan::{Row, Scan, Section};
 use crate::statement::{Statement, Turn};
 use core_sim::{Bytes, Item, Items, Job, Schedule, Words};
 use indexmap::IndexMap;
+use pl_base::layout::TEXT_START;
 use rv_isa::{BranchOp, Instr, encode};
 use std::alloc::{AllocError, Global};
 
@@ -145,7 +148,8 @@ fn push_words(
     section: Option<Section>,
     numbers: &[Number],
 ) -> Result<(), AllocError>
-    ensures { OnOk result (Appends words.old.items words.new.items (Ok (if is_text section then map (λ n. raw n.bits) numbers.now else []))) }
+    ensures { OnOk result (Appends words.old.items words.new.items
+        (Ok (if is_text section then map (λ n. raw n.bits) numbers.now else []))) }
 {
     if is_text(section) {
         push_numbers(words, numbers)?;
@@ -156,8 +160,10 @@ fn push_words(
 /// The words of a row at the end of the text.
 fn push_row(words: &mut Vec<u32>, row: &Row<'_>, to: u32) -> Result<(), JobRefused>
     requires { IsValidRow row.now }
-    ensures ok { OnOk result (Appends words.old.items words.new.items (statement_cells (placed row.now) to row.now.statement)) }
-    ensures fault { IfFault result (λ fault. on_line row.now.line (statement_cells (placed row.now) to row.now.statement) ≡ Err fault) }
+    ensures ok { OnOk result
+        (Appends words.old.items words.new.items (statement_cells (placed row.now) to row.now.statement)) }
+    ensures fault { IfFault result
+        (λ fault. on_line row.now.line (statement_cells (placed row.now) to row.now.statement) ≡ Err fault) }
 {
     match &row.statement {
         Statement::Word(numbers) => {
@@ -222,7 +228,8 @@ fn push_data_words(
     section: Option<Section>,
     numbers: &[Number],
 ) -> Result<(), AllocError>
-    ensures { OnOk result (bytes.new.items ≡ bytes.old.items ++ (if is_data section then flat_map (λ n. to_le_bytes w32 n.bits) numbers.now else [])) }
+    ensures { OnOk result (bytes.new.items ≡ bytes.old.items ++
+        (if is_data section then flat_map (λ n. to_le_bytes w32 n.bits) numbers.now else [])) }
 {
     if section == Some(Section::Data) {
         push_little(bytes, numbers)?;
@@ -350,7 +357,8 @@ fn steps(rows: &[Row<'_>]) -> Option<u32>
 
 fn enter(entries: &mut [u32; 8], statement: &Statement, to: u32)
     requires { IsSmall statement.now }
-    ensures { entries.new ≡ entry_in to statement.now entries.old }
+    ensures entries { entries.new ≡ entry_in to statement.now entries.old }
+    ensures small { All (λ entry. entry < 2 ^ 32) entries.old → All (λ entry. entry < 2 ^ 32) entries.new }
 {
     if let Statement::Entry(hart) = statement {
         entries[hart.bits as usize] = to;
@@ -360,9 +368,10 @@ fn enter(entries: &mut [u32; 8], statement: &Statement, to: u32)
 /// Where the harts begin.
 fn entries(labels: &IndexMap<&[u8], u32>, rows: &[Row<'_>]) -> [u32; 8]
     requires { All IsSmallRow rows.now }
-    ensures { result ≡ entries_of (defined labels.now) (map placed rows.now) }
+    ensures entries { result ≡ entries_of (defined labels.now) (map placed rows.now) }
+    ensures small { All (λ entry. entry < 2 ^ 32) result }
 {
-    let mut entries = [TEXT; 8];
+    let mut entries = [TEXT_START; 8];
     'rows: for row in rows {
         let to = target(labels, row.named).unwrap_or(0);
         enter(&mut entries, &row.statement, to);
@@ -374,12 +383,15 @@ fn entries(labels: &IndexMap<&[u8], u32>, rows: &[Row<'_>]) -> [u32; 8]
 pub fn build(alloc: Global, scan: &Scan<'_>) -> Result<Job, JobRefused>
     requires valid { All IsValidRow scan.now.rows.items }
     requires small { All IsSmallRow scan.now.rows.items }
-    requires harts { harts_in (statements_in scan.now.rows.items) ≤ 8 }
+    requires harts { harts_in (statements_in scan.now.rows.items) ≤ MAX_HARTS }
     requires schedule { IsSome (first_of schedule_in (statements_in scan.now.rows.items)) }
     requires steps { IsSome (first_of steps_in (statements_in scan.now.rows.items)) }
-    ensures ok { IfOk result (IsJobOfRows (defined scan.now.labels) (map placed scan.now.rows.items) (statements_in scan.now.rows.items)) }
+    ensures ok { IfOk result
+        (IsJobOfRows (defined scan.now.labels) (map placed scan.now.rows.items) (statements_in scan.now.rows.items)) }
     ensures drawn { IfOk result (λ job. IsDrawn job.schedule) }
-    ensures fault { IfFault result (λ fault. second_pass (defined scan.now.labels) (map placed scan.now.rows.items) ≡ Err fault) }
+    ensures typed { IfOk result HasTypedNumbers }
+    ensures fault { IfFault result
+        (λ fault. second_pass (defined scan.now.labels) (map placed scan.now.rows.items) ≡ Err fault) }
 {
     let rows = scan.rows.as_slice();
     let words = second_pass(alloc, &scan.labels, rows)?;

@@ -1,3 +1,4 @@
+//! Why a text is no job.
 ghost use Rattle.std.specs.Prelude.{◌≡◌};
 
 use pl_base::NoMemory;

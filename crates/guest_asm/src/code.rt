@@ -1,3 +1,4 @@
+//! Instructions of a text.
 ghost use Rattle.std.specs.Prelude.{◌≡◌, ◌<◌, IfSome, pos};
 ghost use Rattle.std.specs.Option.{option_map};
 ghost use Rattle.rv_isa.specs.Fields.{I, Shift};
@@ -21,7 +22,7 @@ use rv_isa::{BranchOp, ImmOp, Instr, RegOp};
 pub enum Code {
     /// One instruction.
     One(Instr),
-    /// Two instructions, one behind the other: `lui` and `addi` of a number.
+    /// Two instructions, one after the other: `lui` and `addi` of a number.
     Two(Instr, Instr),
     /// `jal` to the label.
     Jump { rd: u8 },

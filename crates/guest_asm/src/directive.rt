@@ -1,3 +1,4 @@
+//! Directives of a text.
 ghost use Rattle.std.specs.Prelude.{◌≡◌, ◌∷◌, map, IfOk, IfSome};
 ghost use Rattle.std.specs.Option.{option_map, option_copied};
 ghost use Rattle.guest_asm.specs.Codes.{texts, code_of};
@@ -62,7 +63,8 @@ fn turn_in(part: &[u8]) -> Option<Turn>
 
 /// The turns of the first part and of the others.
 fn all_turns(alloc: Global, first: &[u8], others: &[&[u8]]) -> Result<Option<Vec<Turn>>, AllocError>
-    ensures { IfOk result (λ found. option_map (λ v. v.items) found ≡ all_some (map turn_in (first.now ∷ texts others.now))) }
+    ensures { IfOk result
+        (λ found. option_map (λ v. v.items) found ≡ all_some (map turn_in (first.now ∷ texts others.now))) }
 {
     let mut turns = Vec::new(alloc);
     let Some(turn) = turn_in(first) else {
@@ -134,7 +136,7 @@ fn schedule_of(alloc: Global, parts: &[&[u8]]) -> Result<Option<Statement>, Allo
     Ok(None)
 }
 
-/// The byte of the two hex digits at the front, and what stands behind them.
+/// The byte of the two hex digits at the beginning, and what follows them.
 #[tactic(auto, unfolding(crate::specs::Statements::pair_at))]
 fn pair_at(text: &[u8]) -> Option<(u8, &[u8])>
     ensures { option_map (λ r. (r.0, r.1.now)) result ≡ pair_at text.now }
@@ -240,7 +242,8 @@ fn named<'a>(statement: Option<Statement>) -> Option<Said<'a>>
 }
 
 fn instruction<'a>(name: &[u8], parts: &[&'a [u8]]) -> Option<Said<'a>>
-    ensures value { option_map seen result ≡ option_map (λ r. (Statement.Code r.0, r.1)) (code_of name.now (texts parts.now)) }
+    ensures value { option_map seen result ≡
+        option_map (λ r. (Statement.Code r.0, r.1)) (code_of name.now (texts parts.now)) }
     ensures valid { IfSome result (λ r. IsValidStatement r.0) }
 {
     let (code, label) = code_of(name, parts)?;

@@ -1,25 +1,27 @@
+//! Jobs made from a number.
 ghost use Rattle.std.specs.Prelude.{◌≡◌, ◌≤◌, ◌<◌, ◌+◌, ◌*◌, ◌++◌, [], map, length, replicate, All, IfOk, OnOk};
 ghost use Rattle.std.specs.List.{range_with_len, flat_map};
 ghost use Rattle.rv_isa.specs.Valid.{IsValid};
 ghost use Rattle.core_sim.specs.Schedules.{drawn};
-ghost use Rattle.core_sim.specs.Valid.{IsValidJob};
+ghost use Rattle.core_sim.specs.Valid.{HasTypedNumbers, IsValidJob};
 ghost use Rattle.core_sim.specs.declared.job.Job.{Job};
 ghost use Rattle.guest_asm.specs.Jobs.{coded, AreCells};
 ghost use Rattle.guest_asm.specs.Generated.{choice, drawn_after, action_at, setup, finish, hart_code, program, entries, IsGenerated};
+ghost use Rattle.pl_base.specs.declared.layout.TheConstants.{MAX_TEXT_WORDS};
 
 use crate::action::{A0, A7, S0, S1, action_numbered, add_to, push_action, set_to};
 use crate::code::{addi_of, lui_of};
-use crate::layout::{DATA, TEXT};
 use core_sim::{Bytes, Job, Schedule, Words, next_draw};
 use pl_base::NoMemory;
+use pl_base::layout::{DATA_START, MAX_STEPS, TEXT_START};
 use rv_isa::{Instr, encode};
 use std::alloc::{AllocError, Global};
 
 /// How many bytes of data there are.
 const DATA_BYTES: usize = 256;
 
-/// How many bytes a hart's block has.
-const BLOCK_BYTES: i32 = 64;
+/// How many bytes a hart asks for, for its block.
+const ASKED_BYTES: i32 = 64;
 
 /// How many bytes of input there are.
 const INPUT_BYTES: u8 = 64;
@@ -63,7 +65,8 @@ impl Drawing {
     /// Draws so many actions and puts their instructions at the end.
     fn add_actions(&mut self, z: u32) -> Result<(), AllocError>
         ensures draws { OnOk result (self.new.x ≡ drawn_after self.old.x (2 * z)) }
-        ensures code { OnOk result (self.new.code.items ≡ self.old.code.items ++ flat_map (action_at self.old.x) (range_with_len 0 z)) }
+        ensures code { OnOk result
+            (self.new.code.items ≡ self.old.code.items ++ flat_map (action_at self.old.x) (range_with_len 0 z)) }
     {
         'actions: for done in 0..z {
             self.add_action()?;
@@ -76,10 +79,10 @@ impl Drawing {
         ensures draws { OnOk result (self.new.x ≡ self.old.x) }
         ensures code { OnOk result (self.new.code.items ≡ self.old.code.items ++ setup) }
     {
-        self.code.push(lui_of(S0, DATA))?;
-        self.code.push(addi_of(S0, DATA))?;
+        self.code.push(lui_of(S0, DATA_START))?;
+        self.code.push(addi_of(S0, DATA_START))?;
         self.code.push(set_to(A7, ALLOC))?;
-        self.code.push(set_to(A0, BLOCK_BYTES))?;
+        self.code.push(set_to(A0, ASKED_BYTES))?;
         self.code.push(Instr::Ecall)?;
         self.code.push(add_to(S1, A0, 0))?;
         Ok(())
@@ -97,13 +100,13 @@ impl Drawing {
 
     /// Draws the code of a hart with so many actions, and gives the address at which it begins.
     fn add_hart(&mut self, z: u32) -> Result<u32, AllocError>
-        requires { length self.old.code.items ≤ 16384 }
+        requires { length self.old.code.items ≤ MAX_TEXT_WORDS }
         ensures draws { OnOk result (self.new.x ≡ drawn_after self.old.x (2 * z)) }
         ensures code { OnOk result (self.new.code.items ≡ self.old.code.items ++ hart_code self.old.x z) }
         ensures grown { OnOk result (length self.new.code.items ≤ length self.old.code.items + 4 * z + 8) }
-        ensures entry { IfOk result (λ entry. entry ≡ 0x10000 + 4 * length self.old.code.items) }
+        ensures entry { IfOk result (λ entry. entry ≡ TEXT_START + 4 * length self.old.code.items) }
     {
-        let entry = TEXT + 4 * self.code.len() as u32;
+        let entry = TEXT_START + 4 * self.code.len() as u32;
         self.add_setup()?;
         self.add_actions(z)?;
         self.add_finish()?;
@@ -126,7 +129,12 @@ fn draw(alloc: Global, s: u32, z: u32) -> Result<(Vec<Instr>, [u32; 8]), AllocEr
     let third = drawing.add_hart(z)?;
     let fourth = drawing.add_hart(z)?;
     let Drawing { code, .. } = drawing;
-    Ok((code, [first, second, third, fourth, TEXT, TEXT, TEXT, TEXT]))
+    Ok((
+        code,
+        [
+            first, second, third, fourth, TEXT_START, TEXT_START, TEXT_START, TEXT_START,
+        ],
+    ))
 }
 
 /// The words of instructions.
@@ -162,7 +170,8 @@ fn zeros(alloc: Global) -> Result<Vec<u8>, AllocError>
 /// The job that is drawn from the number `s`.
 fn job(alloc: Global, s: u32, z: u32) -> Result<Job, NoMemory>
     requires { z ≤ 1000 }
-    ensures { IfOk result (IsGenerated s z) }
+    ensures job { IfOk result (IsGenerated s z) }
+    ensures typed { IfOk result HasTypedNumbers }
 {
     let (code, entries) = draw(alloc, s, z)?;
     let words = words_of(alloc, code.as_slice())?;
@@ -171,7 +180,7 @@ fn job(alloc: Global, s: u32, z: u32) -> Result<Job, NoMemory>
     Ok(Job {
         harts: 4,
         schedule: Schedule::Seed { n: s, q: 5 },
-        steps: 250_000,
+        steps: MAX_STEPS,
         words: Words::from_vec(words),
         data_bytes: Bytes::from_vec(data_bytes),
         input: Bytes::from_vec(input),

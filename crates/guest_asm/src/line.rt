@@ -1,3 +1,4 @@
+//! What a line of a text means.
 ghost use Rattle.std.specs.Prelude.{◌≡◌, IfOk, IfSome};
 ghost use Rattle.std.specs.Option.{option_map};
 ghost use Rattle.guest_asm.specs.Lines.{unlabelled, labelled, line_of, shown, IsValidLine};

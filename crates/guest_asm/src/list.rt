@@ -1,10 +1,12 @@
+//! The words of a job in writing.
 ghost use Rattle.std.specs.Prelude.{◌≡◌, ◌≤◌, ◌++◌, length, IfOk, OnOk, string_bytes};
 ghost use Rattle.core_sim.specs.Valid.{IsValidJob};
 ghost use Rattle.guest_asm.specs.Listing.{word_text, line_text, lines_from, listing_of};
+ghost use Rattle.pl_base.specs.declared.layout.TheConstants.{MAX_TEXT_WORDS};
 
-use crate::layout::TEXT;
 use core_sim::Job;
 use pl_base::NoMemory;
+use pl_base::layout::TEXT_START;
 use rv_isa::{decode, render};
 use std::alloc::Global;
 
@@ -27,11 +29,11 @@ fn push_line(out: &mut String, alloc: Global, address: u32, word: u32) -> Result
 }
 
 fn lines(alloc: Global, words: &[u32]) -> Result<String, NoMemory>
-    requires { length words.now ≤ 16384 }
-    ensures { IfOk result (λ shown. string_bytes shown ≡ lines_from 65536 words.now) }
+    requires { length words.now ≤ MAX_TEXT_WORDS }
+    ensures { IfOk result (λ shown. string_bytes shown ≡ lines_from TEXT_START words.now) }
 {
     let mut out = String::new(alloc);
-    let mut address = TEXT;
+    let mut address = TEXT_START;
     'words: for word in words {
         push_line(&mut out, alloc, address, *word)?;
         address += 4;

@@ -1,3 +1,4 @@
+//! Mnemonics.
 ghost use Rattle.std.specs.Prelude.{◌≡◌, IfSome};
 ghost use Rattle.rv_isa.specs.Fields.{I, Shift};
 ghost use Rattle.rv_isa.specs.Table.{row, op_imm};

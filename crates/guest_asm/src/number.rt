@@ -1,3 +1,4 @@
+//! Numbers of a job.
 ghost use Rattle.std.specs.Prelude.{◌≡◌, ◌≤◌};
 ghost use Rattle.guest_asm.specs.Numbers.{digit_value, digits_of, decimal_of, plain, negated, number_of, number_in, is_within};
 

@@ -1,3 +1,4 @@
+//! From bytes to a job.
 ghost use Rattle.std.specs.Prelude.{◌≡◌, ◌<◌, ◌^◌, length, IfOk};
 ghost use Rattle.core_sim.specs.declared.job.Job.{Job};
 ghost use Rattle.core_sim.specs.Valid.{IsValidJob};

@@ -1,3 +1,4 @@
+//! Which statements may be where.
 ghost use Rattle.std.specs.Prelude.{◌≡◌, ◌*◌, ◌<◌, ◌^◌, length, if◌then◌else◌};
 ghost use Rattle.std.specs.List.{list_any};
 ghost use Rattle.guest_asm.specs.Lines.{shown};
@@ -9,12 +10,7 @@ use crate::line::Line;
 use crate::number::{Number, is_within};
 use crate::scan::{Place, Row, Section};
 use crate::statement::{Statement, Turn};
-
-/// How many words a text can have.
-const MAX_WORDS: u128 = 16_384;
-
-/// How many bytes data can have.
-const MAX_BYTES: u128 = 262_144;
+use pl_base::layout::{MAX_DATA_BYTES, MAX_HARTS, MAX_STEPS, MAX_TEXT_WORDS};
 
 fn is_harts(statement: &Statement) -> bool
     ensures { result ≡ is_harts statement.now }
@@ -29,7 +25,7 @@ fn is_good_harts(statement: &Statement) -> bool
     ensures { result ≡ is_good_harts statement.now }
 {
     match statement {
-        Statement::Harts(harts) => is_within(*harts, 1, 8),
+        Statement::Harts(harts) => is_within(*harts, 1, u32::from(MAX_HARTS)),
         _ => false,
     }
 }
@@ -143,7 +139,7 @@ fn is_quantum(number: Number) -> bool
 fn is_turn(harts: u32, turn: Turn) -> bool
     ensures { result ≡ is_turn harts turn }
 {
-    is_hart(harts, turn.hart) && is_within(turn.count, 1, 250_000)
+    is_hart(harts, turn.hart) && is_within(turn.count, 1, MAX_STEPS)
 }
 
 fn are_turns(harts: u32, turns: &[Turn]) -> bool
@@ -165,10 +161,10 @@ fn is_out_of_range(harts: u32, statement: &Statement) -> bool
         Statement::Rr(quantum) => !is_quantum(*quantum),
         Statement::List(turns) => !are_turns(harts, turns.as_slice()),
         Statement::Seed(number, quantum) => number.negative || !is_quantum(*quantum),
-        Statement::Steps(steps) => !is_within(*steps, 1, 250_000),
+        Statement::Steps(steps) => !is_within(*steps, 1, MAX_STEPS),
         Statement::Entry(hart) => !is_hart(harts, *hart),
         Statement::Byte(numbers) => !are_bytes(numbers.as_slice()),
-        Statement::Space(count) => !is_within(*count, 0, 262_144),
+        Statement::Space(count) => !is_within(*count, 0, MAX_DATA_BYTES),
         _ => false,
     }
 }
@@ -244,7 +240,7 @@ fn overfills(place: Place, statement: &Statement) -> bool
 {
     let words = u128::from(place.words) + words_of(place.section, statement);
     let bytes = u128::from(place.bytes) + bytes_of(place.section, statement);
-    words > MAX_WORDS || bytes > MAX_BYTES
+    words > u128::from(MAX_TEXT_WORDS) || bytes > u128::from(MAX_DATA_BYTES)
 }
 
 fn line_breaks_harts(rows: &[Row<'_>], line: &Line<'_>) -> bool
@@ -307,7 +303,7 @@ fn has_stray_label(place: Place, line: &Line<'_>) -> bool
     line.label.is_some() && place.section.is_none()
 }
 
-/// The first rule that a line breaks behind these statements; `again` says that its label is defined already.
+/// The first rule that a line breaks after these statements; `again` says that its label is defined already.
 #[tactic(auto, unfolding(crate::specs::Rules::broken_at))]
 pub fn broken_at(rows: &[Row<'_>], place: Place, again: bool, line: &Line<'_>) -> Option<JobCause>
     ensures { result ≡ broken_at (statements_in rows.now) place again (shown line.now) }
@@ -333,7 +329,7 @@ pub fn broken_at(rows: &[Row<'_>], place: Place, again: bool, line: &Line<'_>) -
     None
 }
 
-/// Whether a job lacks something behind all of its lines.
+/// Whether a job lacks something after all of its lines.
 pub fn is_incomplete(rows: &[Row<'_>], place: Place) -> bool
     ensures { result ≡ lacks (statements_in rows.now) place.words }
 {

@@ -1,3 +1,4 @@
+//! Statements of a text line by line.
 ghost use Rattle.std.specs.Prelude.{◌≡◌, ◌≤◌, ◌<◌, ◌+◌, ◌^◌, List, [], ◌∷◌, ◌++◌, length, map, is_some, false, All, IfSome, IfOk, IfErr, OnOk};
 ghost use Rattle.std.specs.Option.{option_copied};
 ghost use Rattle.guest_asm.specs.Texts.{lines_of};
@@ -6,14 +7,15 @@ ghost use Rattle.guest_asm.specs.Lines.{Meaning, shown, IsValidLine};
 ghost use Rattle.guest_asm.specs.Rules.{address_in, section_after, after_statement, after_optional, overfills, on_statement, is_again, address_of, label_with, broken};
 ghost use Rattle.guest_asm.specs.Jobs.{placed, row_with, first_pass, HasFault, IfFault};
 ghost use Rattle.guest_asm.specs.Scans.{defined, IsValidRow, Keeps};
+ghost use Rattle.pl_base.specs.declared.layout.TheConstants.{MAX_TEXT_WORDS, MAX_DATA_BYTES};
 
 use crate::bytes::cut_at;
 use crate::cause::{JobCause, JobRefused, refused};
-use crate::layout::{DATA, TEXT};
 use crate::line::{Line, line_of};
 use crate::rules::{broken_at, bytes_of, is_incomplete, words_of};
 use crate::statement::Statement;
 use indexmap::IndexMap;
+use pl_base::layout::{DATA_START, TEXT_START};
 use std::alloc::{AllocFailed, Global};
 
 /// Where statements put what they emit.
@@ -23,7 +25,7 @@ pub enum Section {
     Data,
 }
 
-/// What stands before a line: the section in force, and how many words of text and bytes of data there are.
+/// What comes before a line: the section in force, and how many words of text and bytes of data there are.
 #[derive(Clone, Copy)]
 pub struct Place {
     pub section: Option<Section>,
@@ -52,14 +54,14 @@ pub struct Scan<'a> {
 
 /// The address of the next thing that a statement puts into the section; text begins at 10000 and data at 100000 hex.
 fn address(place: Place) -> u32
-    requires words { place.words ≤ 16384 }
-    requires bytes { place.bytes ≤ 262144 }
+    requires words { place.words ≤ MAX_TEXT_WORDS }
+    requires bytes { place.bytes ≤ MAX_DATA_BYTES }
     ensures { result ≡ address_in place }
 {
     if place.section == Some(Section::Data) {
-        DATA + place.bytes
+        DATA_START + place.bytes
     } else {
-        TEXT + 4 * place.words
+        TEXT_START + 4 * place.words
     }
 }
 
@@ -73,7 +75,7 @@ fn section_after(section: Option<Section>, statement: &Statement) -> Option<Sect
     }
 }
 
-/// What stands behind a statement.
+/// What comes after a statement.
 fn after_statement(place: Place, statement: &Statement) -> Place
     requires { overfills place statement.now ≡ false }
     ensures { result ≡ after_statement place statement.now }
@@ -132,15 +134,16 @@ fn push_row<'a>(
     statement: Option<Statement>,
     named: Option<&'a [u8]>,
 ) -> Result<(), AllocFailed<Row<'a>>>
-    requires words { place.words ≤ 16384 }
+    requires words { place.words ≤ MAX_TEXT_WORDS }
     requires valid { IfSome statement IsValidStatement }
-    ensures rows { OnOk result (map placed rows.new.items ≡ map placed rows.old.items ++ row_with line place (option_copied named.entry) statement) }
+    ensures rows { OnOk result (map placed rows.new.items ≡ map placed rows.old.items ++
+        row_with line place (option_copied named.entry) statement) }
     ensures valid { OnOk result (All IsValidRow rows.old.items → All IsValidRow rows.new.items) }
 {
     if let Some(statement) = statement {
         rows.push(Row {
             line,
-            at: TEXT + 4 * place.words,
+            at: TEXT_START + 4 * place.words,
             section: place.section,
             statement,
             named,
@@ -149,14 +152,14 @@ fn push_row<'a>(
     Ok(())
 }
 
-/// What stands behind a line.
+/// What comes after a line.
 fn after_line(place: Place, statement: &Option<Statement>) -> Place
     requires fits { on_statement (overfills place) statement.now ≡ false }
-    requires words { place.words ≤ 16384 }
-    requires bytes { place.bytes ≤ 262144 }
+    requires words { place.words ≤ MAX_TEXT_WORDS }
+    requires bytes { place.bytes ≤ MAX_DATA_BYTES }
     ensures value { result ≡ after_optional place statement.now }
-    ensures words { result.words ≤ 16384 }
-    ensures bytes { result.bytes ≤ 262144 }
+    ensures words { result.words ≤ MAX_TEXT_WORDS }
+    ensures bytes { result.bytes ≤ MAX_DATA_BYTES }
 {
     match statement {
         Some(statement) => after_statement(place, statement),
@@ -180,7 +183,7 @@ impl<'a> Scan<'a> {
         }
     }
 
-    /// The first rule that a line breaks behind those so far.
+    /// The first rule that a line breaks after those so far.
     fn broken(&self, line: &Line<'a>) -> Option<JobCause>
         ensures { (before : List Meaning) → Keeps before self.now → result ≡ broken before (shown line.now) }
     {
@@ -192,10 +195,11 @@ impl<'a> Scan<'a> {
     fn add(&mut self, number: u32, line: Line<'a>) -> Result<(), JobRefused>
         requires fits { on_statement (overfills self.old.place) line.statement ≡ false }
         requires new { is_again (defined self.old.labels) (option_copied line.label) ≡ false }
-        requires words { self.old.place.words ≤ 16384 }
-        requires bytes { self.old.place.bytes ≤ 262144 }
+        requires words { self.old.place.words ≤ MAX_TEXT_WORDS }
+        requires bytes { self.old.place.bytes ≤ MAX_DATA_BYTES }
         requires valid { IsValidLine line }
-        ensures kept { OnOk result ((before : List Meaning) → number ≡ length before + 1 → Keeps before self.old → Keeps (before ++ shown line.entry ∷ []) self.new) }
+        ensures kept { OnOk result ((before : List Meaning) → number ≡ length before + 1 →
+            Keeps before self.old → Keeps (before ++ shown line.entry ∷ []) self.new) }
         ensures memory { IfErr result (λ e. e ≡ JobRefused.NoMemory) }
     {
         let Line {
@@ -214,7 +218,8 @@ impl<'a> Scan<'a> {
 /// The first pass: the statements and the labels of the lines, or the first line that breaks a rule.
 pub fn first_pass(alloc: Global, bytes: &[u8]) -> Result<Scan<'_>, JobRefused>
     requires { length bytes.now < 2 ^ 31 }
-    ensures ok { IfOk result (λ scan. (before : List Meaning) × (first_pass [] (lines_of bytes.now) ≡ Ok before) × Keeps before scan) }
+    ensures ok { IfOk result
+        (λ scan. (before : List Meaning) × (first_pass [] (lines_of bytes.now) ≡ Ok before) × Keeps before scan) }
     ensures fault { IfFault result (HasFault bytes.now) }
 {
     let mut scan = Scan::new(alloc);

@@ -1,3 +1,4 @@
+//! Statements.
 use crate::code::Code;
 use crate::number::Number;
 use core_sim::Bytes;

@@ -1,4 +1,5 @@
 use Rattle.std.specs.Prelude.{◌≡◌, ◌==◌, ℕ, zero, suc, ◌-◌, ◌/◌, ◌%◌, ◌&&◌, if◌then◌else◌, List, Option, Some, None, slice_index, nat_le}
+use Rattle.pl_base.specs.declared.layout.TheConstants.{HEAP_START, UNIT_BYTES}
 
 -- a size in the table, where 0 says that no block starts there
 abbrev pub size_of : ℕ → Option ℕ
@@ -7,7 +8,10 @@ size_of (suc size) = Some (suc size)
 
 -- the asked size of the live block that starts at each address, where one does
 unfoldable pub asked : List ℕ → ℕ → Option ℕ
-asked sizes address = if nat_le 0x400000 address && (address % 16 == 0) then size_of (slice_index sizes ((address - 0x400000) / 16)) else None
+asked sizes address =
+    if nat_le HEAP_START address && (address % UNIT_BYTES == 0)
+    then size_of (slice_index sizes ((address - HEAP_START) / UNIT_BYTES))
+    else None
 
 -- a block is live: it starts there, and was asked with that size
 abbrev pub IsLive : List ℕ → ℕ → ℕ → Type 0

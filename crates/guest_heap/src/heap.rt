@@ -1,20 +1,13 @@
+//! The guest's heap.
 ghost use Rattle.std.specs.Prelude.{◌≡◌, ℕ, ◌+◌, ◌*◌, ◌/◌, ◌%◌, ◌≤◌, ◌<◌, Some, None, List, IfOk, OnOk, OnErr, IfSome, IfNone, OnSome, length, slice_index};
 ghost use Rattle.guest_heap.specs.Blocks.{asked, IsLive, changed};
 ghost use Rattle.guest_heap.specs.FirstFit.{IsFirstFit, IsRefused};
 
 use crate::holes::{Hole, give, take};
 use pl_base::NoMemory;
+use pl_base::layout::{HEAP_START, HEAP_UNITS, MAX_CALL_BYTES, UNIT_BYTES};
 use std::alloc::Global;
 use std::marker::Model;
-
-/// The first address of the heap.
-const BASE: u32 = 0x40_0000;
-
-/// How many units of 16 bytes the heap has.
-const UNITS: u32 = 65_536;
-
-/// The largest size of a block.
-const MOST: u32 = 65_536;
 
 /// The guest's heap.
 #[derive(Drop)]
@@ -44,11 +37,11 @@ impl Heap {
     pub fn new(alloc: Global) -> Result<Heap, NoMemory>
         ensures { IfOk result (λ heap. asked heap ≡ λ _. None) }
     {
-        let sizes = vec![in alloc; 0; UNITS as usize]?;
+        let sizes = vec![in alloc; 0; HEAP_UNITS as usize]?;
         let mut holes = Vec::new(alloc);
         holes.push(Hole {
             start: 0,
-            end: UNITS,
+            end: HEAP_UNITS,
         })?;
         Ok(Heap { sizes, holes })
     }
@@ -61,21 +54,22 @@ impl Heap {
     /// After `NoMemory` the heap is as before.
     pub fn alloc(&mut self, n: u32) -> Result<Option<u32>, NoMemory>
         ensures refused { IfOk result (λ answer. IfNone answer (IsRefused (IsLive self.old) n)) }
-        ensures sized { IfOk result (λ answer. OnSome answer ((0 < n) × (n ≤ 65536))) }
+        ensures sized { IfOk result (λ answer. OnSome answer ((0 < n) × (n ≤ MAX_CALL_BYTES))) }
         ensures first { IfOk result (λ answer. IfSome answer (IsFirstFit (IsLive self.old) n)) }
-        ensures live { IfOk result (λ answer. IfSome answer (λ at. asked self.new ≡ changed (asked self.old) at (Some n))) }
+        ensures live { IfOk result
+            (λ answer. IfSome answer (λ at. asked self.new ≡ changed (asked self.old) at (Some n))) }
 
         ensures none { IfOk result (λ answer. IfNone answer (self.new ≡ self.old)) }
         ensures unchanged { OnErr result (self.new ≡ self.old) }
     {
-        if n == 0 || n > MOST {
+        if n == 0 || n > MAX_CALL_BYTES {
             return Ok(None);
         }
-        let Some(unit) = take(&mut self.holes, n.div_ceil(16)) else {
+        let Some(unit) = take(&mut self.holes, n.div_ceil(UNIT_BYTES)) else {
             return Ok(None);
         };
         self.sizes[unit as usize] = n;
-        Ok(Some(BASE + 16 * unit))
+        Ok(Some(HEAP_START + UNIT_BYTES * unit))
     }
 
     /// Gives the block that starts at `a` back; gives its asked size. `None` exactly where no live block starts there.
@@ -93,7 +87,7 @@ impl Heap {
             return Ok(None);
         };
         let size = self.sizes[unit as usize];
-        give(&mut self.holes, unit, unit + size.div_ceil(16))?;
+        give(&mut self.holes, unit, unit + size.div_ceil(UNIT_BYTES))?;
         self.sizes[unit as usize] = 0;
         Ok(Some(size))
     }
@@ -109,20 +103,20 @@ impl Heap {
 
 /// The unit at which the live block of an address starts.
 fn find(sizes: &[u32], a: u32) -> Option<u32>
-    requires { length sizes.now ≡ 65536 }
+    requires { length sizes.now ≡ HEAP_UNITS }
     ensures none { IfNone result (asked sizes.now a ≡ None) }
-    ensures place { IfSome result (λ unit. a ≡ 0x400000 + 16 * unit) }
+    ensures place { IfSome result (λ unit. a ≡ HEAP_START + UNIT_BYTES * unit) }
     ensures live { IfSome result (λ unit. 0 < slice_index sizes.now unit) }
-    ensures within { IfSome result (λ unit. unit < 65536) }
+    ensures within { IfSome result (λ unit. unit < HEAP_UNITS) }
 {
-    if a < BASE {
+    if a < HEAP_START {
         return None;
     }
-    if a % 16 != 0 {
+    if a % UNIT_BYTES != 0 {
         return None;
     }
-    let unit = (a - BASE) / 16;
-    if unit >= UNITS {
+    let unit = (a - HEAP_START) / UNIT_BYTES;
+    if unit >= HEAP_UNITS {
         return None;
     }
     if sizes[unit as usize] == 0 {

@@ -1,3 +1,4 @@
+//! Free units of the heap.
 ghost use Rattle.std.specs.Prelude.{◌≡◌, ℕ, ◌+◌, ◌-◌, ◌≤◌, ◌<◌, IfSome, IfNone, MatchBool, OnOk, OnErr, length, vec_len};
 ghost use Rattle.guest_heap.specs.Holes.{IsApart, In, AllIn, Loses, Gains, room, start_of, end_of};
 
@@ -10,7 +11,7 @@ pub struct Hole {
     pub end: u32,
 }
 
-/// Takes so many units, at least one, from the front of the first hole that has them; says where they start.
+/// Takes so many units, at least one, from the beginning of the first hole that has them; says where they start.
 pub fn take(holes: &mut Vec<Hole>, need: u32) -> Option<u32>
     requires apart { IsApart 0 holes.old.items }
     requires some { 0 < need }
@@ -101,7 +102,8 @@ fn join(holes: &mut Vec<Hole>, index: usize, start: u32, end: u32)
 
 /// Whether there is a hole at a place of the list that starts at or before a unit.
 fn starts_by(holes: &[Hole], index: usize, unit: u32) -> bool
-    ensures { MatchBool result ((index < length holes.now) × (start_of holes.now index ≤ unit)) (index < length holes.now → unit < start_of holes.now index) }
+    ensures { MatchBool result ((index < length holes.now) × (start_of holes.now index ≤ unit))
+        (index < length holes.now → unit < start_of holes.now index) }
 {
     index < holes.len() && holes[index].start <= unit
 }

@@ -7,7 +7,7 @@ use Rattle.std.proofs.lemmas.Bool.{ne_eqb}
 use Rattle.guest_mem.specs.Bytes.{written, AllMapped}
 use Rattle.guest_mem.specs.Image.{PageImage}
 use Rattle.guest_mem.specs.Memory.{bytes, mapped, texts}
-use Rattle.guest_mem.proofs.Among.{not_among_before, not_among_past, place}
+use Rattle.pl_base.proofs.Pages.{not_among_before, not_among_past, place}
 use Rattle.guest_heap.specs.Blocks.{asked}
 use Rattle.pl_event.specs.declared.event.Kind.{Kind}
 use Rattle.pl_event.specs.declared.event.Kind.TheVariants.{Rd, Wr}

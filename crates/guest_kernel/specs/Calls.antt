@@ -1,8 +1,7 @@
 -- The table of kernel calls: what each of them answers, and which event it gives.
 use Rattle.std.specs.Prelude.{◌≡◌, ◌==◌, ℕ, ◌+◌, ◌-◌, ◌*◌, ◌/◌, ◌%◌, ◌^◌, ◌<◌, ◌≤◌, ◌⊎◌, false, true, [], ◌∷◌, Option, Some, None, if◌then◌else◌, length, min, slice_index_or}
-use Rattle.guest_mem.specs.Memory.{count_below}
+use Rattle.pl_base.specs.Pages.{count_below, EachPage}
 use Rattle.guest_mem.specs.Bytes.{AllMapped}
-use Rattle.guest_mem.specs.Faults.{EachPage}
 use Rattle.guest_heap.specs.FirstFit.{IsFirstFit, IsRefused}
 use Rattle.pl_event.specs.declared.event.Kind.{Kind}
 use Rattle.pl_event.specs.declared.event.Kind.TheVariants.{Im, Al, Fr, Bf, Mp, Um, Rd, Wr}
@@ -10,6 +9,7 @@ use Rattle.guest_kernel.specs.declared.call.CallArgs.{CallArgs}
 use Rattle.guest_kernel.specs.declared.call.KernelStep.{KernelStep}
 use Rattle.guest_kernel.specs.declared.call.KernelStep.TheVariants.{Ended, Went}
 use Rattle.guest_kernel.specs.State.{State}
+use Rattle.pl_base.specs.declared.layout.TheConstants.{PAGE_BYTES, PAGE_COUNT, MAX_MAPPED_PAGES, MAP_START, MAP_END, MAX_CALL_BYTES, MAX_OUTPUT_BYTES}
 
 pub data Call : Type 0 where
   exit_call : Call
@@ -39,39 +39,39 @@ Live s addr size = s.blocks addr ≡ Some size
 
 -- pages of the map region, at least one
 pub record IsMapRange (addr count : ℕ) : Type 0 where
-  pub aligned : addr % 4096 ≡ 0
+  pub aligned : addr % PAGE_BYTES ≡ 0
   pub some : 1 ≤ count
-  pub from : 0x800000 ≤ addr
-  pub within : addr + 4096 * count ≤ 0xe00000
+  pub from : MAP_START ≤ addr
+  pub within : addr + PAGE_BYTES * count ≤ MAP_END
 
 -- where an alloc succeeds, and the address that it gives
 pub record Allocates (s : State) (size addr : ℕ) : Type 0 where
   pub some : 0 < size
-  pub few : size ≤ 65536
+  pub few : size ≤ MAX_CALL_BYTES
   pub first : IsFirstFit (Live s) size addr
 
 -- where a map succeeds
 pub record CanMap (s : State) (addr count : ℕ) : Type 0 where
   pub range : IsMapRange addr count
-  pub free : EachPage s.mapped (addr / 4096) count false
-  pub room : count_below s.mapped 4096 + count ≤ 512
+  pub free : EachPage s.mapped (addr / PAGE_BYTES) count false
+  pub room : count_below s.mapped PAGE_COUNT + count ≤ MAX_MAPPED_PAGES
 
 -- where an unmap succeeds
 pub record CanUnmap (s : State) (addr count : ℕ) : Type 0 where
   pub range : IsMapRange addr count
-  pub all_mapped : EachPage s.mapped (addr / 4096) count true
+  pub all_mapped : EachPage s.mapped (addr / PAGE_BYTES) count true
 
 -- where a read succeeds that asks for so many bytes
 pub record CanRead (s : State) (addr count : ℕ) : Type 0 where
-  pub few : count ≤ 65536
+  pub few : count ≤ MAX_CALL_BYTES
   pub all_mapped : AllMapped s.bytes addr count
-  pub no_text : (k : ℕ) → addr ≤ k → k < addr + count → s.texts (k / 4096) ≡ false
+  pub no_text : (k : ℕ) → addr ≤ k → k < addr + count → s.texts (k / PAGE_BYTES) ≡ false
 
 -- where a write succeeds
 pub record CanWrite (s : State) (addr count : ℕ) : Type 0 where
-  pub few : count ≤ 65536
+  pub few : count ≤ MAX_CALL_BYTES
   pub all_mapped : AllMapped s.bytes addr count
-  pub room : length s.output + count ≤ 2 ^ 20
+  pub room : length s.output + count ≤ MAX_OUTPUT_BYTES
 
 -- a call that comes to `success` where it can, and fails where it cannot
 abbrev pub ComesTo : Type 0 → KernelStep → KernelStep → Type 0
@@ -93,8 +93,8 @@ abbrev pub IsAnswer : Call → State → CallArgs → KernelStep → Type 0
 IsAnswer exit_call s args step = step ≡ Ended args.a0
 IsAnswer alloc_call s args step = GivesBlock s args.a0 step ⊎ (IsRefused (Live s) args.a0 × (step ≡ Went 0 (Im 10)))
 IsAnswer free_call s args step = step ≡ freed args.a0 (s.blocks args.a0)
-IsAnswer map_call s args step = ComesTo (CanMap s args.a0 args.a1) (Went 0 (Mp (args.a0 / 4096) args.a1)) step
-IsAnswer unmap_call s args step = ComesTo (CanUnmap s args.a0 args.a1) (Went 0 (Um (args.a0 / 4096) args.a1)) step
+IsAnswer map_call s args step = ComesTo (CanMap s args.a0 args.a1) (Went 0 (Mp (args.a0 / PAGE_BYTES) args.a1)) step
+IsAnswer unmap_call s args step = ComesTo (CanUnmap s args.a0 args.a1) (Went 0 (Um (args.a0 / PAGE_BYTES) args.a1)) step
 IsAnswer read_call s args step = let count = min args.a2 (length s.input) in ComesTo (CanRead s args.a1 args.a2) (moved count (Rd args.a1 count)) step
 IsAnswer write_call s args step = ComesTo (CanWrite s args.a1 args.a2) (moved args.a2 (Wr args.a1 args.a2)) step
 IsAnswer unknown_call s args step = step ≡ failure

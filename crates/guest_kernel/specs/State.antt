@@ -2,7 +2,8 @@
 use Rattle.std.specs.Prelude.{ℕ, zero, suc, ◌+◌, Bool, true, false, List, [], ◌∷◌, ◌++◌, Option, Some, None, take, drop, unwrap_or}
 use Rattle.guest_mem.specs.Image.{PageImage}
 use Rattle.guest_mem.specs.Memory.{bytes, mapped, texts}
-use Rattle.guest_mem.specs.Bytes.{written, repaged, marked}
+use Rattle.pl_base.specs.Pages.{marked}
+use Rattle.guest_mem.specs.Bytes.{written, repaged}
 use Rattle.guest_heap.specs.Blocks.{asked, changed}
 use Rattle.pl_event.specs.declared.event.Kind.{Kind}
 use Rattle.pl_event.specs.declared.event.Kind.TheVariants.{Al, Fr, Mp, Um, Rd, Wr}

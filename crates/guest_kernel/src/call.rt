@@ -1,3 +1,4 @@
+//! What a call of the kernel reads, and what it came to.
 use pl_event::Kind;
 
 /// The registers that a call of the kernel reads: a7 has its number, the others its arguments.

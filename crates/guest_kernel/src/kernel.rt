@@ -1,4 +1,5 @@
-ghost use Rattle.std.specs.Prelude.{◌≡◌, ◌+◌, ◌^◌, ◌≤◌, length, vec_len, IfOk, OnErr};
+//! The kernel of the guest: memory, heap, input and output.
+ghost use Rattle.std.specs.Prelude.{◌≡◌, ◌+◌, ◌*◌, ◌^◌, ◌≤◌, length, vec_len, IfOk, OnErr};
 ghost use Rattle.std.specs.Bool.{OnTrue, OnFalse};
 ghost use Rattle.guest_mem.specs.Bytes.{AllMapped};
 ghost use Rattle.guest_mem.specs.Memory.{bytes};
@@ -13,15 +14,10 @@ use crate::pages::{Pages, map_pages};
 use guest_heap::Heap;
 use guest_mem::{MapFault, PagedMem};
 use pl_base::NoMemory;
+use pl_base::layout::{MAX_CALL_BYTES, MAX_OUTPUT_BYTES};
 use pl_event::Kind;
 use std::alloc::Global;
 use std::marker::Model;
-
-/// How many bytes one call moves at most.
-const MOST_MOVED: u32 = 65_536;
-
-/// How many bytes the output has at most: 1 MiB.
-const MOST_OUTPUT: usize = 1_048_576;
 
 /// The answer -1.
 const FAILED: u32 = u32::MAX;
@@ -42,12 +38,14 @@ pub struct Kernel {
 impl Model for Kernel {
     ghost use Rattle.std.specs.Prelude.{◌≤◌, ◌^◌, length, drop};
     ghost use Rattle.guest_kernel.specs.Image.{KernelImage};
+    ghost use Rattle.pl_base.specs.declared.layout.TheConstants.{MAX_OUTPUT_BYTES};
 
     ghost Value = { KernelImage };
 
-    ghost view = { λ k. record { memory = k.mem; heap = k.heap; input = drop k.taken k.input.items; output = k.output.items } };
+    ghost view = { λ k. record
+        { memory = k.mem; heap = k.heap; input = drop k.taken k.input.items; output = k.output.items } };
 
-    ghost invariant = { λ k. (k.taken ≤ length k.input.items) × (length k.output.items ≤ 2 ^ 20) };
+    ghost invariant = { λ k. (k.taken ≤ length k.input.items) × (length k.output.items ≤ MAX_OUTPUT_BYTES) };
 }
 
 impl Kernel {
@@ -109,7 +107,7 @@ impl Kernel {
     /// The bytes that went outside, at most 1 MiB.
     pub fn output(&self) -> &[u8]
         ensures value { result.now ≡ self.now.output }
-        ensures few { length result.now ≤ 2 ^ 20 }
+        ensures few { length result.now ≤ MAX_OUTPUT_BYTES }
     {
         &self.output
     }
@@ -126,7 +124,7 @@ impl Kernel {
         }
     }
 
-    /// Gives the block back that starts at a0.
+    /// Frees the block that starts at a0.
     fn free(&mut self, args: CallArgs) -> Result<KernelStep, NoMemory>
         ensures answer { IfOk result (IsAnswer free_call (state_of self.old) args) }
         ensures after { IfOk result (λ step. state_of self.new ≡ after (state_of self.old) step) }
@@ -175,7 +173,7 @@ impl Kernel {
         ensures answer { IsAnswer read_call (state_of self.old) args result }
         ensures after { state_of self.new ≡ after (state_of self.old) result }
     {
-        if args.a2 > MOST_MOVED || !self.mem.can_write(args.a1, args.a2) {
+        if args.a2 > MAX_CALL_BYTES || !self.mem.can_write(args.a1, args.a2) {
             return failed();
         }
         let left = &self.input[self.taken..];
@@ -192,10 +190,10 @@ impl Kernel {
         ensures after { IfOk result (λ step. state_of self.new ≡ after (state_of self.old) step) }
         ensures unchanged { OnErr result (self.new ≡ self.old) }
     {
-        if args.a2 > MOST_MOVED {
+        if args.a2 > MAX_CALL_BYTES {
             return Ok(failed());
         }
-        if self.output.len() + args.a2 as usize > MOST_OUTPUT {
+        if self.output.len() + args.a2 as usize > MAX_OUTPUT_BYTES as usize {
             return Ok(failed());
         }
         if !append_bytes(&self.mem, args.a1, args.a2, &mut self.output)? {
@@ -231,7 +229,7 @@ fn moved(count: u32, kind: Kind) -> KernelStep
 /// Appends the bytes from an address on, so many of them, to a list, and says whether all of them are mapped. The list
 /// stays where they are not, and where no memory was left.
 fn append_bytes(mem: &PagedMem, addr: u32, count: u32, list: &mut Vec<u8>) -> Result<bool, NoMemory>
-    requires { vec_len list.old + count ≤ 2 ^ 21 }
+    requires { vec_len list.old + count ≤ 2 * MAX_OUTPUT_BYTES }
     ensures moved { IfOk result (λ all. OnTrue all (Appends mem.now addr count list.old.items list.new.items)) }
     ensures none { IfOk result (λ all. OnFalse all (AllMapped (bytes mem.now) addr count → ⊥)) }
     ensures kept { IfOk result (λ all. OnFalse all (list.new.items ≡ list.old.items)) }

@@ -1,5 +1,3 @@
-pub mod Among
-pub mod Counts
 pub mod Numbers
 pub mod Pages
 pub mod Repages

@@ -8,7 +8,7 @@ use Rattle.std.proofs.lemmas.Bool.{cases_lt, cases_eq}
 use Rattle.guest_mem.specs.Bytes.{overwritten, written, AllMapped, IsFirstUnmapped}
 use Rattle.guest_mem.specs.Image.{PageImage}
 use Rattle.guest_mem.specs.Memory.{page_at, bytes, mapped, texts}
-use Rattle.guest_mem.proofs.Among.{among, not_among_before, not_among_past, place}
+use Rattle.pl_base.proofs.Pages.{among, not_among_before, not_among_past, place}
 
 -- a list of one value has it everywhere, if that is the default too
 pub same_everywhere : {X : Type 0} (n k : ℕ) (x : X) → get_or (replicate n x) k x ≡ x

@@ -1,14 +1,15 @@
 -- Pages replaced one after another.
-use Rattle.std.proofs.Common.{◌≡◌, ◌≢◌, ℕ, ◌+◌, ◌/◌, ◌%◌, ◌<◌, inl, inr, Bool, true, false, List, length, get_or, set, Option, Some, None, is_some, refl, arith, sym, ap, ◌∙◌, IsSome, IfSome}
+use Rattle.std.proofs.Common.{◌≡◌, ℕ, ◌+◌, ◌/◌, ◌%◌, ◌<◌, inl, inr, Bool, true, false, List, length, get_or, set, Option, Some, None, is_some, refl, arith, ap, IsSome, IfSome}
 use Rattle.std.proofs.Math.Path.{fun_ext}
 use Rattle.std.specs.Option.{option_map, option_map_or}
 use Rattle.std.proofs.lemmas.List.{get_or-set_same, get_or-set_other}
 use Rattle.std.proofs.lemmas.Bool.{cases_eq}
-use Rattle.guest_mem.specs.Bytes.{is_among, repaged, marked}
+use Rattle.pl_base.specs.Pages.{is_among, marked}
+use Rattle.guest_mem.specs.Bytes.{repaged}
 use Rattle.guest_mem.specs.Directory.{IsZeroPage}
 use Rattle.guest_mem.specs.Image.{PageImage}
 use Rattle.guest_mem.specs.Memory.{page_at, bytes, mapped, texts}
-use Rattle.guest_mem.proofs.Among.{among, not_among_before, not_among_past, place}
+use Rattle.pl_base.proofs.Pages.{among, none_among, among_more}
 
 -- `count` entries from `first` on have that byte throughout, or none, and those marks; the others are as before
 pub record Repages (old new : List (Option PageImage)) (first count : ℕ) (byte : Option ℕ) (is_mapped is_text : Bool) : Type 0 where
@@ -28,15 +29,6 @@ nothing_shows = record { byte_is = λ k. refl; mapped_is = refl; text_is = refl 
 pub zeros_show : (entry : Option PageImage) (text : Bool) → IsSome entry → IfSome entry (IsZeroPage text) → Shows entry (Some 0) true text
 zeros_show None text some zeros = absurd (cc)
 zeros_show (Some page) text some zeros = record { byte_is = λ k. ap Some (zeros.zeros k); mapped_is = refl; text_is = zeros.text_is }
-
--- one more place among those from `first` on
-pub among_more : (first count number k : ℕ) → number ≡ first + count → k ≢ number → is_among first (count + 1) k ≡ is_among first count k
-among_more first count number k is other =
-    elim (place first count k) [
-      | inl (from, within) ↦ among first (count + 1) k from (omega arith) ∙ sym (among first count k from within)
-      | inr (inl early) ↦ not_among_before first (count + 1) k early ∙ sym (not_among_before first count k early)
-      | inr (inr past) ↦ not_among_past first (count + 1) k (omega arith) ∙ sym (not_among_past first count k past)
-    ]
 
 at_one : (first count number k : ℕ) → number ≡ first + count → k ≡ number → is_among first (count + 1) k ≡ true
 at_one first count number k is same = among first (count + 1) k (omega arith) (omega arith)
@@ -92,9 +84,6 @@ repages_more old new first count next number entry byte is_mapped is_text is mor
   mapped_are = mapped-set old new first count number entry is_mapped is within shows.mapped_is before.mapped_are;
   texts_are = texts-set old new first count number entry is_text is within shows.text_is before.texts_are;
 }
-
-none_among : (first k : ℕ) → is_among first 0 k ≡ false
-none_among first k = elim (place first 0 k) [ inl (from, under) ↦ absurd (omega arith) | inr (inl early) ↦ not_among_before first 0 k early | inr (inr past) ↦ not_among_past first 0 k past ]
 
 -- none is replaced yet
 pub repages_none : (pages : List (Option PageImage)) (first count : ℕ) (byte : Option ℕ) (is_mapped is_text : Bool) → count ≡ 0 →

@@ -2,11 +2,11 @@
 use Rattle.std.proofs.Common.{◌≡◌, ℕ, ◌+◌, ◌-◌, ◌≤◌, ◌⊎◌, inl, inr, true, false, List, length, take, drop, ◌++◌, ◌<◌, Option, None, replicate, refl, arith, sym, ◌∙◌, ap}
 use Rattle.std.proofs.lemmas.List.{length-replicate, take_at}
 use Rattle.std.proofs.lemmas.Bool.{cases_lt}
-use Rattle.guest_mem.specs.Bytes.{marked}
+use Rattle.pl_base.specs.Pages.{marked, count_below}
 use Rattle.guest_mem.specs.Directory.{IsDirectory}
 use Rattle.guest_mem.specs.Image.{PageImage}
-use Rattle.guest_mem.specs.Memory.{page_at, mapped, count_below}
-use Rattle.guest_mem.proofs.Counts.{count_none, count_more, count_less}
+use Rattle.guest_mem.specs.Memory.{page_at, mapped}
+use Rattle.pl_base.proofs.Pages.{count_failing, count_more, count_fewer}
 use Rattle.guest_mem.proofs.Pages.{everywhere, mapped_within}
 
 -- in a directory of empty entries no page is mapped
@@ -17,7 +17,7 @@ none_mapped pages n empty k = let none : page_at pages k ≡ None = everywhere p
 pub directory_of_none : (pages : List (Option PageImage)) (n : ℕ) → n ≡ 4096 → pages ≡ replicate n None → IsDirectory pages 0
 directory_of_none pages n is empty = record {
   all_pages = ap length empty ∙ length-replicate n None ∙ is;
-  counted = sym (count_none (mapped pages) 4096 (none_mapped pages n empty));
+  counted = sym (count_failing (mapped pages) 4096 (none_mapped pages n empty));
   few = omega arith;
 }
 
@@ -37,7 +37,7 @@ directory_more old new first count before was long within free room now =
 pub directory_less : (old new : List (Option PageImage)) (first count before : ℕ) → IsDirectory old before → length new ≡ length old →
     ((k : ℕ) → first ≤ k → k < first + count → mapped old k ≡ true) → mapped new ≡ marked (mapped old) first count false → (count ≤ before) × IsDirectory new (before - count)
 directory_less old new first count before was long taken now =
-    let counted = count_less (mapped old) first count 4096 taken in
+    let counted = count_fewer (mapped old) first count 4096 taken in
     let same : count_below (mapped new) 4096 ≡ count_below (marked (mapped old) first count false) 4096 = ap (λ test. count_below test 4096) now in
     let range : (count ≡ 0) ⊎ (first + count ≤ 4096) =
     elim (cases_lt 0 count) [

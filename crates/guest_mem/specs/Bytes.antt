@@ -1,4 +1,6 @@
-use Rattle.std.specs.Prelude.{◌≡◌, ℕ, zero, suc, ◌+◌, ◌-◌, ◌*◌, ◌/◌, ◌<◌, ◌≤◌, ◌⊎◌, ◌&&◌, Bool, if◌then◌else◌, Option, Some, None, List, length, slice_index, nat_le, nat_lt, unwrap_or, IsSome}
+use Rattle.std.specs.Prelude.{◌≡◌, ℕ, zero, suc, ◌+◌, ◌-◌, ◌*◌, ◌/◌, ◌<◌, ◌≤◌, ◌⊎◌, if◌then◌else◌, Option, Some, None, List, length, slice_index, unwrap_or, IsSome}
+use Rattle.pl_base.specs.Pages.{is_among}
+use Rattle.pl_base.specs.declared.layout.TheConstants.{PAGE_BYTES}
 
 -- how many bytes a load or a store moves
 abbrev pub IsWidth : ℕ → Type 0
@@ -13,10 +15,6 @@ number_from bytes at (suc count) = bytes at + 256 * number_from bytes (at + 1) c
 abbrev pub number_at : (ℕ → Option ℕ) → ℕ → ℕ → ℕ
 number_at bytes = number_from (λ k. unwrap_or (bytes k) 0)
 
--- whether a place is one of `count` from `first` on
-abbrev pub is_among : ℕ → ℕ → ℕ → Bool
-is_among first count k = nat_le first k && nat_lt k (first + count)
-
 -- bytes after a list was written over them from `at` on
 abbrev pub overwritten : (ℕ → ℕ) → ℕ → List ℕ → ℕ → ℕ
 overwritten bytes at list k = if is_among at (length list) k then slice_index list (k - at) else bytes k
@@ -27,11 +25,7 @@ written bytes at list k = if is_among at (length list) k then Some (slice_index 
 
 -- a memory's bytes after `count` pages from `first` on got that byte throughout, or none
 abbrev pub repaged : (ℕ → Option ℕ) → ℕ → ℕ → Option ℕ → ℕ → Option ℕ
-repaged bytes first count byte k = if is_among first count (k / 4096) then byte else bytes k
-
--- a test of pages after `count` of them from `first` on got that answer
-abbrev pub marked : (ℕ → Bool) → ℕ → ℕ → Bool → ℕ → Bool
-marked test first count answer page = if is_among first count page then answer else test page
+repaged bytes first count byte k = if is_among first count (k / PAGE_BYTES) then byte else bytes k
 
 -- each of `count` addresses from `at` on lies on a mapped page
 abbrev pub AllMapped : (ℕ → Option ℕ) → ℕ → ℕ → Type 0

@@ -1,12 +1,14 @@
 use Rattle.std.specs.Prelude.{◌≡◌, ℕ, ◌≤◌, Bool, Option, List, length, slice_index}
 use Rattle.guest_mem.specs.Image.{PageImage}
-use Rattle.guest_mem.specs.Memory.{mapped, count_below}
+use Rattle.pl_base.specs.Pages.{count_below}
+use Rattle.guest_mem.specs.Memory.{mapped}
+use Rattle.pl_base.specs.declared.layout.TheConstants.{PAGE_COUNT, MAX_MAPPED_PAGES}
 
--- a directory has 4,096 entries, and as many pages are mapped as are counted, at most 512
+-- a directory has an entry for each page, and as many pages are mapped as are counted
 pub record IsDirectory (pages : List (Option PageImage)) (count : ℕ) : Type 0 where
-  pub all_pages : length pages ≡ 4096
-  pub counted : count ≡ count_below (mapped pages) 4096
-  pub few : count ≤ 512
+  pub all_pages : length pages ≡ PAGE_COUNT
+  pub counted : count ≡ count_below (mapped pages) PAGE_COUNT
+  pub few : count ≤ MAX_MAPPED_PAGES
 
 -- a page of zeros
 pub record IsZeroPage (text : Bool) (page : PageImage) : Type 0 where

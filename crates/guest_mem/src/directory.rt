@@ -1,17 +1,21 @@
+//! Pages in their directory: taken in, taken out and written.
 ghost use Rattle.std.specs.Prelude.{◌≡◌, ℕ, ◌+◌, ◌*◌, ◌/◌, ◌%◌, ◌^◌, ◌≤◌, ◌<◌, Bool, true, false, Some, None, length, vec_len, take, IfOk, IfErr, OnOk, OnErr, All};
 ghost use Rattle.std.specs.Int.{to_le_bytes, w32};
-ghost use Rattle.guest_mem.specs.Bytes.{IsWidth, AllMapped, written, repaged, marked};
+ghost use Rattle.pl_base.specs.Pages.{marked};
+ghost use Rattle.guest_mem.specs.Bytes.{IsWidth, AllMapped, written, repaged};
 ghost use Rattle.guest_mem.specs.Directory.{IsZeroPage};
 ghost use Rattle.guest_mem.specs.Faults.{IsWritable, IsWriteFault};
 ghost use Rattle.guest_mem.specs.Memory.{bytes, mapped, texts};
+ghost use Rattle.pl_base.specs.declared.layout.TheConstants.{PAGE_BYTES};
 
 use crate::fault::MemFault;
-use crate::page::{PAGE_BYTES, Page};
+use crate::page::{PAGE, Page};
 use pl_base::NoMemory;
+use pl_base::layout::PAGE_COUNT;
 use std::alloc::Global;
 
-/// How many pages there are.
-pub const PAGES: usize = 4096;
+/// How many pages there are, as a length of a slice.
+pub const PAGES: usize = PAGE_COUNT as usize;
 
 /// So many pages of zeros.
 fn zero_pages(alloc: Global, count: usize, text: bool) -> Result<Vec<Page>, NoMemory>
@@ -60,14 +64,14 @@ pub fn clear(pages: &mut [Option<Page>], first: usize, count: usize)
 
 /// Writes a piece within one mapped page, from the address `at` on.
 pub fn put(pages: &mut [Option<Page>], at: usize, piece: &[u8])
-    requires mapped { mapped pages.old (at / 4096) ≡ true }
-    requires within { at % 4096 + length piece.now ≤ 4096 }
+    requires mapped { mapped pages.old (at / PAGE_BYTES) ≡ true }
+    requires within { at % PAGE_BYTES + length piece.now ≤ PAGE_BYTES }
     ensures bytes { bytes pages.new ≡ written (bytes pages.old) at piece.now }
     ensures mapped { mapped pages.new ≡ mapped pages.old }
     ensures texts { texts pages.new ≡ texts pages.old }
 {
-    if let Some(page) = &mut pages[at / PAGE_BYTES] {
-        page.copy_in(at % PAGE_BYTES, piece);
+    if let Some(page) = &mut pages[at / PAGE] {
+        page.copy_in(at % PAGE, piece);
     }
 }
 
@@ -81,7 +85,7 @@ pub fn put_all(pages: &mut [Option<Page>], at: usize, from: &[u8])
 {
     let mut done = 0;
     while done < from.len() {
-        let room = PAGE_BYTES - (at + done) % PAGE_BYTES;
+        let room = PAGE - (at + done) % PAGE;
         let end = from.len().min(done + room);
         put(pages, at + done, &from[done..end]);
         done = end;
@@ -91,9 +95,9 @@ pub fn put_all(pages: &mut [Option<Page>], at: usize, from: &[u8])
 /// Writes the `width` low bytes of `value` within one page, from the address `at` on, the lowest first.
 pub fn store(pages: &mut [Option<Page>], at: u32, width: u8, value: u32) -> Result<(), MemFault>
     requires width { IsWidth width }
-    requires within { at % 4096 + width ≤ 4096 }
+    requires within { at % PAGE_BYTES + width ≤ PAGE_BYTES }
     ensures can { OnOk result (IsWritable pages.old at width) }
-    ensures below { OnOk result (at / 4096 < length pages.old) }
+    ensures below { OnOk result (at / PAGE_BYTES < length pages.old) }
     ensures bytes { OnOk result (bytes pages.new ≡ written (bytes pages.old) at (take width (to_le_bytes w32 value))) }
     ensures mapped { mapped pages.new ≡ mapped pages.old }
     ensures texts { texts pages.new ≡ texts pages.old }
@@ -101,7 +105,7 @@ pub fn store(pages: &mut [Option<Page>], at: u32, width: u8, value: u32) -> Resu
     ensures fault { IfErr result (IsWriteFault pages.old at width) }
     ensures unchanged { OnErr result (pages.new ≡ pages.old) }
 {
-    let number = at as usize / PAGE_BYTES;
+    let number = at as usize / PAGE;
     if number >= pages.len() {
         return Err(MemFault::Unmapped { byte: at });
     }
@@ -111,6 +115,6 @@ pub fn store(pages: &mut [Option<Page>], at: u32, width: u8, value: u32) -> Resu
     if page.is_text() {
         return Err(MemFault::ReadOnly);
     }
-    page.store(at as usize % PAGE_BYTES, width, value);
+    page.store(at as usize % PAGE, width, value);
     Ok(())
 }

@@ -1,3 +1,4 @@
+//! Why pages are not mapped, and bytes not read or written.
 ghost use Rattle.std.specs.Prelude.{◌≡◌};
 ghost use Rattle.guest_mem.specs.declared.fault.MapFault.TheVariants.{NoMemory as no_memory};
 

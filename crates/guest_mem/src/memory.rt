@@ -1,19 +1,20 @@
+//! The guest's memory.
 ghost use Rattle.std.specs.Prelude.{◌≡◌, ℕ, ◌+◌, ◌*◌, ◌/◌, ◌%◌, ◌^◌, ◌≤◌, ◌<◌, Bool, true, false, Some, None, length, slice_index, take, IfOk, IfErr, OnOk, OnErr, IfNone, MatchOption, MatchBool, IsTrue, IsSome, IsNone};
 ghost use Rattle.std.specs.Option.{option_copied};
 ghost use Rattle.std.specs.Int.{to_le_bytes, w32};
-ghost use Rattle.guest_mem.specs.Bytes.{IsWidth, number_at, written, repaged, marked, AllMapped, IsFirstUnmapped};
+ghost use Rattle.pl_base.specs.Pages.{marked, EachPage};
+ghost use Rattle.guest_mem.specs.Bytes.{IsWidth, number_at, written, repaged, AllMapped, IsFirstUnmapped};
 ghost use Rattle.guest_mem.specs.Memory.{page_at, bytes, mapped, texts};
-ghost use Rattle.guest_mem.specs.Faults.{InRange, EachPage, SomePage, CanMap, IsMapFault, IsReadFault, IsWritable, IsWriteFault, HasText};
+ghost use Rattle.guest_mem.specs.Faults.{InRange, SomePage, CanMap, IsMapFault, IsReadFault, IsWritable, IsWriteFault, HasText};
+ghost use Rattle.pl_base.specs.declared.layout.TheConstants.{PAGE_BYTES, PAGE_COUNT, MEMORY_BYTES};
 
 use crate::directory::{PAGES, clear, install, put_all, store};
 use crate::fault::{MapFault, MemFault, NotMapped};
-use crate::page::{PAGE_BYTES, Page, number};
+use crate::page::{PAGE, Page, number};
 use pl_base::NoMemory;
+use pl_base::layout::MAX_MAPPED_PAGES;
 use std::alloc::Global;
 use std::marker::Model;
-
-/// How many pages may be mapped at once.
-const MOST_MAPPED: u32 = 512;
 
 /// The guest's memory.
 #[derive(Drop)]
@@ -84,7 +85,7 @@ impl PagedMem {
         if self.any_mapped(first, end) {
             return Err(MapFault::Mapped);
         }
-        if self.count + u32::from(count) > MOST_MAPPED {
+        if self.count + u32::from(count) > MAX_MAPPED_PAGES {
             return Err(MapFault::TooMany);
         }
         install(self.alloc, &mut self.pages, first, usize::from(count), text)?;
@@ -92,7 +93,7 @@ impl PagedMem {
         Ok(())
     }
 
-    /// Unmaps `count` pages from `page` on and gives their memory back.
+    /// Unmaps `count` pages from `page` on and frees their memory.
     ///
     /// # Errors
     ///
@@ -120,7 +121,7 @@ impl PagedMem {
     /// Whether the page is mapped; none past 4,095 is.
     pub fn is_mapped(&self, page: u16) -> bool
         ensures mapped { result ≡ mapped self.now page }
-        ensures below { IsTrue result → page < 4096 }
+        ensures below { IsTrue result → page < PAGE_COUNT }
     {
         self.maps(usize::from(page))
     }
@@ -133,16 +134,16 @@ impl PagedMem {
     pub fn read(&self, addr: u32, width: u8) -> Result<u32, MemFault>
         requires { IsWidth width }
         ensures mapped { OnOk result (AllMapped (bytes self.now) addr width) }
-        ensures below { OnOk result (addr + width ≤ 2 ^ 24) }
+        ensures below { OnOk result (addr + width ≤ MEMORY_BYTES) }
         ensures value { IfOk result (λ value. value ≡ number_at (bytes self.now) addr width) }
         ensures small { IfOk result (λ value. value < 256 ^ width) }
         ensures fault { IfErr result (IsReadFault self.now addr width) }
     {
-        let at = addr as usize % PAGE_BYTES;
-        if at + usize::from(width) > PAGE_BYTES {
+        let at = addr as usize % PAGE;
+        if at + usize::from(width) > PAGE {
             return self.read_across(addr, width);
         }
-        match self.page(addr as usize / PAGE_BYTES) {
+        match self.page(addr as usize / PAGE) {
             Some(page) => Ok(page.load(at, width)),
             None => Err(MemFault::Unmapped { byte: addr }),
         }
@@ -157,15 +158,16 @@ impl PagedMem {
     pub fn write(&mut self, addr: u32, width: u8, value: u32) -> Result<(), MemFault>
         requires { IsWidth width }
         ensures can { OnOk result (IsWritable self.old addr width) }
-        ensures below { OnOk result (addr + width ≤ 2 ^ 24) }
-        ensures bytes { OnOk result (bytes self.new ≡ written (bytes self.old) addr (take width (to_le_bytes w32 value))) }
+        ensures below { OnOk result (addr + width ≤ MEMORY_BYTES) }
+        ensures bytes { OnOk result
+            (bytes self.new ≡ written (bytes self.old) addr (take width (to_le_bytes w32 value))) }
         ensures mapped { OnOk result (mapped self.new ≡ mapped self.old) }
         ensures texts { OnOk result (texts self.new ≡ texts self.old) }
 
         ensures fault { IfErr result (IsWriteFault self.old addr width) }
         ensures unchanged { OnErr result (self.new ≡ self.old) }
     {
-        if addr as usize % PAGE_BYTES + usize::from(width) > PAGE_BYTES {
+        if addr as usize % PAGE + usize::from(width) > PAGE {
             return self.write_bytes(addr, &value.to_le_bytes()[..usize::from(width)]);
         }
         store(&mut self.pages, addr, width, value)
@@ -178,8 +180,9 @@ impl PagedMem {
     /// `Unmapped` exactly where a byte lies on no mapped page, naming the first; `into` stays as it was then.
     pub fn read_bytes(&self, addr: u32, into: &mut [u8]) -> Result<(), MemFault>
         ensures mapped { OnOk result (AllMapped (bytes self.now) addr (length into.old)) }
-        ensures below { OnOk result (1 ≤ length into.old → addr + length into.old ≤ 2 ^ 24) }
-        ensures value { OnOk result ((k : ℕ) → k < length into.new → bytes self.now (addr + k) ≡ Some (slice_index into.new k)) }
+        ensures below { OnOk result (1 ≤ length into.old → addr + length into.old ≤ MEMORY_BYTES) }
+        ensures value { OnOk result
+            ((k : ℕ) → k < length into.new → bytes self.now (addr + k) ≡ Some (slice_index into.new k)) }
         ensures fault { IfErr result (IsReadFault self.now addr (length into.old)) }
         ensures unchanged { OnErr result (into.new ≡ into.old) }
     {
@@ -189,9 +192,9 @@ impl PagedMem {
         let start = addr as usize;
         let mut done = 0;
         while done < into.len() {
-            let at = (start + done) % PAGE_BYTES;
-            let end = into.len().min(done + (PAGE_BYTES - at));
-            if let Some(page) = self.page((start + done) / PAGE_BYTES) {
+            let at = (start + done) % PAGE;
+            let end = into.len().min(done + (PAGE - at));
+            if let Some(page) = self.page((start + done) / PAGE) {
                 page.copy_out(at, &mut into[done..end]);
             }
             done = end;
@@ -206,7 +209,7 @@ impl PagedMem {
     /// Those of `write`. Nothing is written then.
     pub fn write_bytes(&mut self, addr: u32, from: &[u8]) -> Result<(), MemFault>
         ensures can { OnOk result (IsWritable self.old addr (length from.now)) }
-        ensures below { OnOk result (1 ≤ length from.now → addr + length from.now ≤ 2 ^ 24) }
+        ensures below { OnOk result (1 ≤ length from.now → addr + length from.now ≤ MEMORY_BYTES) }
         ensures bytes { OnOk result (bytes self.new ≡ written (bytes self.old) addr from.now) }
         ensures mapped { OnOk result (mapped self.new ≡ mapped self.old) }
         ensures texts { OnOk result (texts self.new ≡ texts self.old) }
@@ -248,7 +251,7 @@ impl PagedMem {
     /// The page of a number, where it is mapped.
     fn page(&self, number: usize) -> Option<&Page>
         ensures page { option_copied result ≡ page_at self.now number }
-        ensures below { IsSome result → number < 4096 }
+        ensures below { IsSome result → number < PAGE_COUNT }
     {
         if number < PAGES {
             self.pages[number].as_ref()
@@ -260,7 +263,7 @@ impl PagedMem {
     /// Whether the page of a number is mapped.
     fn maps(&self, number: usize) -> bool
         ensures mapped { result ≡ mapped self.now number }
-        ensures below { IsTrue result → number < 4096 }
+        ensures below { IsTrue result → number < PAGE_COUNT }
     {
         self.page(number).is_some()
     }
@@ -277,7 +280,8 @@ impl PagedMem {
 
     /// Whether one of the pages from `first` up to `end` is mapped.
     fn any_mapped(&self, first: usize, end: usize) -> bool
-        ensures { MatchBool result ((page : ℕ) × (first ≤ page) × (page < end) × (mapped self.now page ≡ true)) ((page : ℕ) → first ≤ page → page < end → mapped self.now page ≡ false) }
+        ensures { MatchBool result ((page : ℕ) × (first ≤ page) × (page < end) × (mapped self.now page ≡ true))
+            ((page : ℕ) → first ≤ page → page < end → mapped self.now page ≡ false) }
     {
         for number in first..end {
             if self.maps(number) {
@@ -289,7 +293,8 @@ impl PagedMem {
 
     /// Whether each of the pages from `first` up to `end` is mapped.
     fn all_mapped(&self, first: usize, end: usize) -> bool
-        ensures { MatchBool result ((page : ℕ) → first ≤ page → page < end → mapped self.now page ≡ true) ((page : ℕ) × (first ≤ page) × (page < end) × (mapped self.now page ≡ false)) }
+        ensures { MatchBool result ((page : ℕ) → first ≤ page → page < end → mapped self.now page ≡ true)
+            ((page : ℕ) × (first ≤ page) × (page < end) × (mapped self.now page ≡ false)) }
     {
         for number in first..end {
             if !self.maps(number) {
@@ -302,16 +307,17 @@ impl PagedMem {
     /// The first of `count` addresses from `addr` on that lies on no mapped page.
     fn first_unmapped(&self, addr: u32, count: usize) -> Option<u32>
         requires { count < 2 ^ 63 }
-        ensures first { MatchOption result (AllMapped (bytes self.now) addr count) (λ byte. IsFirstUnmapped (bytes self.now) addr count byte) }
-        ensures below { IfNone result (1 ≤ count → addr + count ≤ 2 ^ 24) }
+        ensures first { MatchOption result (AllMapped (bytes self.now) addr count)
+            (λ byte. IsFirstUnmapped (bytes self.now) addr count byte) }
+        ensures below { IfNone result (1 ≤ count → addr + count ≤ MEMORY_BYTES) }
     {
         let mut at = addr as usize;
         let end = at + count;
         while at < end {
-            if !self.maps(at / PAGE_BYTES) {
+            if !self.maps(at / PAGE) {
                 return Some(at as u32);
             }
-            at = (at / PAGE_BYTES + 1) * PAGE_BYTES;
+            at = (at / PAGE + 1) * PAGE;
         }
         None
     }
@@ -319,15 +325,16 @@ impl PagedMem {
     /// Whether one of `count` addresses from `addr` on lies on a page of text.
     fn has_text(&self, addr: u32, count: usize) -> bool
         requires { count < 2 ^ 63 }
-        ensures { MatchBool result (HasText self.now addr count) ((k : ℕ) → addr ≤ k → k < addr + count → texts self.now (k / 4096) ≡ false) }
+        ensures { MatchBool result (HasText self.now addr count)
+            ((k : ℕ) → addr ≤ k → k < addr + count → texts self.now (k / PAGE_BYTES) ≡ false) }
     {
         let mut at = addr as usize;
         let end = at + count;
         while at < end {
-            if self.is_text(at / PAGE_BYTES) {
+            if self.is_text(at / PAGE) {
                 return true;
             }
-            at = (at / PAGE_BYTES + 1) * PAGE_BYTES;
+            at = (at / PAGE + 1) * PAGE;
         }
         false
     }
@@ -336,7 +343,7 @@ impl PagedMem {
     fn read_across(&self, addr: u32, width: u8) -> Result<u32, MemFault>
         requires { IsWidth width }
         ensures mapped { OnOk result (AllMapped (bytes self.now) addr width) }
-        ensures below { OnOk result (addr + width ≤ 2 ^ 24) }
+        ensures below { OnOk result (addr + width ≤ MEMORY_BYTES) }
         ensures value { IfOk result (λ value. value ≡ number_at (bytes self.now) addr width) }
         ensures small { IfOk result (λ value. value < 256 ^ width) }
         ensures fault { IfErr result (IsReadFault self.now addr width) }

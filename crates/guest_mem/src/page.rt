@@ -1,13 +1,15 @@
+//! One mapped page.
 ghost use Rattle.std.specs.Prelude.{◌≡◌, ℕ, ◌+◌, ◌-◌, ◌^◌, ◌≤◌, ◌<◌, ◌&&◌, if◌then◌else◌, length, slice_index, nat_le, nat_lt, take, IfOk, replicate};
 ghost use Rattle.std.specs.Int.{to_le_bytes, w32};
 ghost use Rattle.guest_mem.specs.Bytes.{IsWidth, number_from, overwritten};
 
 use pl_base::NoMemory;
+use pl_base::layout::PAGE_BYTES;
 use std::alloc::Global;
 use std::marker::Model;
 
-/// How many bytes a page has.
-pub const PAGE_BYTES: usize = 4096;
+/// How many bytes a page has, as a length of a slice.
+pub const PAGE: usize = PAGE_BYTES as usize;
 
 /// The little-endian number in the `width` bytes from `at` on; `width` is 1, 2 or 4.
 pub fn number(bytes: &[u8], at: usize, width: u8) -> u32
@@ -37,12 +39,13 @@ pub struct Page {
 impl Model for Page {
     ghost use Rattle.std.specs.Prelude.{◌≡◌, length};
     ghost use Rattle.guest_mem.specs.Image.{PageImage};
+    ghost use Rattle.pl_base.specs.declared.layout.TheConstants.{PAGE_BYTES};
 
     ghost Value = { PageImage };
 
     ghost view = { λ p. record { text = p.text; bytes = p.bytes.items } };
 
-    ghost invariant = { λ p. length p.bytes.items ≡ 4096 };
+    ghost invariant = { λ p. length p.bytes.items ≡ PAGE_BYTES };
 }
 
 impl Page {
@@ -51,7 +54,7 @@ impl Page {
         ensures text { IfOk result (λ p. p.text ≡ text) }
         ensures zeros { IfOk result (λ p. (k : ℕ) → slice_index p.bytes k ≡ 0) }
     {
-        let bytes = vec![in alloc; 0; PAGE_BYTES]?;
+        let bytes = vec![in alloc; 0; PAGE]?;
         Ok(Page { text, bytes })
     }
 
@@ -65,7 +68,7 @@ impl Page {
     /// The little-endian number in the `width` bytes from `at` on; `width` is 1, 2 or 4.
     pub fn load(&self, at: usize, width: u8) -> u32
         requires width { IsWidth width }
-        requires within { at + width ≤ 4096 }
+        requires within { at + width ≤ PAGE_BYTES }
         ensures number { result ≡ number_from (slice_index self.now.bytes) at width }
         ensures small { result < 256 ^ width }
     {
@@ -75,9 +78,10 @@ impl Page {
     /// Writes the `width` low bytes of `value` from `at` on, the lowest first; `width` is 1, 2 or 4.
     pub fn store(&mut self, at: usize, width: u8, value: u32)
         requires width { IsWidth width }
-        requires within { at + width ≤ 4096 }
+        requires within { at + width ≤ PAGE_BYTES }
         ensures text { self.new.text ≡ self.old.text }
-        ensures bytes { (k : ℕ) → slice_index self.new.bytes k ≡ overwritten (slice_index self.old.bytes) at (take width (to_le_bytes w32 value)) k }
+        ensures bytes { (k : ℕ) → slice_index self.new.bytes k ≡
+            overwritten (slice_index self.old.bytes) at (take width (to_le_bytes w32 value)) k }
     {
         let [b0, b1, b2, b3] = value.to_le_bytes();
         match width {
@@ -89,7 +93,7 @@ impl Page {
 
     /// Copies the bytes from `at` on, as many as `into` has.
     pub fn copy_out(&self, at: usize, into: &mut [u8])
-        requires { at + length into.old ≤ 4096 }
+        requires { at + length into.old ≤ PAGE_BYTES }
         ensures { (k : ℕ) → k < length into.new → slice_index into.new k ≡ slice_index self.now.bytes (at + k) }
     {
         into.copy_from_slice(&self.bytes[at..at + into.len()]);
@@ -97,9 +101,10 @@ impl Page {
 
     /// Writes the bytes of `from` from `at` on.
     pub fn copy_in(&mut self, at: usize, from: &[u8])
-        requires { at + length from.now ≤ 4096 }
+        requires { at + length from.now ≤ PAGE_BYTES }
         ensures text { self.new.text ≡ self.old.text }
-        ensures bytes { (k : ℕ) → slice_index self.new.bytes k ≡ overwritten (slice_index self.old.bytes) at from.now k }
+        ensures bytes { (k : ℕ) → slice_index self.new.bytes k ≡
+            overwritten (slice_index self.old.bytes) at from.now k }
     {
         self.bytes[at..at + from.len()].copy_from_slice(from);
     }

@@ -1,5 +1,5 @@
 -- Bytes in one buffer: those at hand, those begun after them, and room.
-use Rattle.std.specs.Prelude.{◌≡◌, ◌≢◌, ℕ, ◌≤◌, List, vec_len, All}
+use Rattle.std.specs.Prelude.{◌≡◌, ◌≢◌, ℕ, ◌+◌, ◌≤◌, List, vec_len, All}
 use Rattle.std.specs.List.{slice_range}
 use Rattle.pl_base.specs.declared.line_buffer.Held.{Held}
 
@@ -10,6 +10,10 @@ front_of held = slice_range held.bytes.items held.start held.whole
 -- the bytes begun after them
 abbrev pub begun_of : Held → List ℕ
 begun_of held = slice_range held.bytes.items held.whole held.end
+
+-- the first bytes of the room after them, so many of them
+abbrev pub next_of : Held → ℕ → List ℕ
+next_of held count = slice_range held.bytes.items held.end (held.end + count)
 
 -- no line ends in these bytes
 abbrev pub HasNoLineFeed : List ℕ → Type 0

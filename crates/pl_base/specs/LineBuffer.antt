@@ -21,7 +21,8 @@ ends_line [] = true
 ends_line (byte ∷ []) = byte == 10
 ends_line (byte ∷ next ∷ rest) = ends_line (next ∷ rest)
 
--- the places are in order, whole lines are at hand as long as the source is not at its end, and no line ends in what is begun
+-- the places are in order, whole lines are at hand as long as the source is not at its end, and no line ends in what
+-- is begun
 pub record IsSound (held : Held) (ended : Bool) : Type 0 where
   pub ordered : IsOrdered held
   pub lines : ended ≡ false → ends_line (front_of held) ≡ true

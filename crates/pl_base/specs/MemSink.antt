@@ -1,6 +1,6 @@
 -- What a sink into memory takes.
-use Rattle.std.specs.Prelude.{ℕ, ◌-◌, ◌≡◌, ◌⊎◌, min, List, take, ◌++◌}
-use Rattle.pl_base.specs.FaultPlan.{Plan, NamesNext, after_call, after_fault}
+use Rattle.std.specs.Prelude.{ℕ, ◌-◌, ◌≡◌, ◌⊎◌, min, List, [], take, ◌++◌}
+use Rattle.pl_base.specs.FaultPlan.{Plan, new_plan, NamesNext, after_call, after_fault}
 
 -- the bytes written, how many more there is room for, how many a write takes at most, and which writes fail
 pub record Output : Type 0 where
@@ -8,6 +8,10 @@ pub record Output : Type 0 where
   pub room : ℕ
   pub piece : ℕ
   pub plan : Plan
+
+-- before the first write
+abbrev pub new_output : ℕ → ℕ → List ℕ → Output
+new_output room piece fails = record { written = []; room = room; piece = piece; plan = new_plan fails }
 
 -- how many bytes of this many a write takes that does not fail
 abbrev pub taken : Output → ℕ → ℕ
@@ -19,7 +23,11 @@ FailsNext output = NamesNext output.plan ⊎ (output.room ≡ 0)
 
 -- after a write that took the first n of these bytes
 abbrev pub after_write : Output → List ℕ → ℕ → Output
-after_write output bytes n = record output { written = output.written ++ take n bytes; room = output.room - n; plan = after_call output.plan }
+after_write output bytes n = record output {
+  written = output.written ++ take n bytes;
+  room = output.room - n;
+  plan = after_call output.plan;
+}
 
 -- after a write that failed
 abbrev pub after_failed_write : Output → Output

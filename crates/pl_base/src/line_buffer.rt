@@ -1,10 +1,9 @@
 //! Whole lines of a source that is read piece by piece.
 ghost use Rattle.std.specs.Prelude.{◌≡◌, ◌≢◌, true, false, ℕ, slice_index, ◌+◌, ◌≤◌, ◌<◌, List, [], ◌++◌, length, take, drop, vec_len, IfOk, IfErr, OnOk, OnErr, IfSome, IsErrOf, MatchResult};
-ghost use Rattle.std.specs.List.{slice_range};
 ghost use Rattle.std.specs.Io.KnownBytes.{Consumes, Keeps, IsAtEnd};
 ghost use Rattle.pl_base.specs.Causes.{HasCause, HasReadCause};
-ghost use Rattle.pl_base.specs.Fronts.{TakesFront};
-ghost use Rattle.pl_base.specs.Held.{front_of, begun_of, HasNoLineFeed, IsOrdered, HasSamePlaces};
+ghost use Rattle.pl_base.specs.Fronts.{HasMore, TakesFront};
+ghost use Rattle.pl_base.specs.Held.{front_of, begun_of, next_of, HasNoLineFeed, IsOrdered, HasSamePlaces};
 ghost use Rattle.pl_base.specs.LineBuffer.{Window, Reads, Fills, Stops, Skips, ends_line};
 
 use crate::loops::{PIECE, zeros};
@@ -32,9 +31,9 @@ fn lines_len(bytes: &[u8]) -> usize
 /// Reads the rest of a source, at most `limit` bytes, and keeps none of it.
 fn skip<S: Source>(source: &mut S, limit: u32, piece: &mut [u8]) -> Result<(), ReadEnd>
     requires room { 0 < length piece.old }
-    requires short { length piece.old ≤ 65536 }
+    requires short { length piece.old ≤ PIECE }
     ensures ok { OnOk result (Skips (S.left source.old) (S.left source.new) limit) }
-    ensures too_long { IsErrOf result ReadEnd.TooLong → IfSome (S.left source.old) (λ left. limit < length left) }
+    ensures too_long { IsErrOf result ReadEnd.TooLong → HasMore (S.left source.old) limit }
     ensures taken { IfErr result (λ end. TakesFront end (S.left source.old) (S.left source.new) limit) }
     ensures cause { HasReadCause (S.faults source.old) (S.faults source.new) result }
     ensures no_memory { IfErr result (λ end. end ≢ ReadEnd.NoMemory) }
@@ -93,10 +92,10 @@ impl Held {
         requires room { self.old.end < vec_len self.old.bytes }
         ensures places { HasSamePlaces self.old self.new }
         ensures begun { begun_of self.new ≡ begun_of self.old }
-        ensures within { IfOk result (λ n. (self.new.end + n ≤ vec_len self.new.bytes) × (n ≤ 65536)) }
+        ensures within { IfOk result (λ n. (self.new.end + n ≤ vec_len self.new.bytes) × (n ≤ PIECE)) }
 
         // The bytes that came are those after the bytes begun.
-        ensures bytes { IfOk result (λ n. Consumes (S.left source.old) (S.left source.new) (slice_range self.new.bytes.items self.new.end (self.new.end + n))) }
+        ensures bytes { IfOk result (λ n. Consumes (S.left source.old) (S.left source.new) (next_of self.new n)) }
         ensures end { IfOk result (λ n. n ≡ 0 → IsAtEnd (S.left source.new)) }
         ensures none { OnErr result (Keeps (S.left source.old) (S.left source.new)) }
         ensures cause { HasCause (S.faults source.old) (S.faults source.new) result }
@@ -115,7 +114,7 @@ impl Held {
         ensures lines { ends_line (front_of self.new) ≡ true }
         ensures begun { HasNoLineFeed (begun_of self.new) }
 
-        ensures joined { front_of self.new ++ begun_of self.new ≡ begun_of self.old ++ slice_range self.old.bytes.items self.old.end (self.old.end + count) }
+        ensures joined { front_of self.new ++ begun_of self.new ≡ begun_of self.old ++ next_of self.old count }
     {
         let lines = lines_len(&self.bytes[self.end..self.end + count]);
         if lines > 0 {
@@ -206,7 +205,7 @@ impl LineBuffer {
         ensures more { OnOk result (self.new.ended ≡ false → self.new.spare < self.old.spare) }
         ensures none_held { HasNoLineFeed self.new.begun }
         ensures stopped { IfErr result (λ end. Stops end (S.left source.old) (S.left source.new) self.old self.new) }
-        ensures too_long { IsErrOf result ReadEnd.TooLong → IfSome (S.left source.old) (λ left. self.old.spare < length left) }
+        ensures too_long { IsErrOf result ReadEnd.TooLong → HasMore (S.left source.old) self.old.spare }
         ensures taken { IfErr result (λ end. TakesFront end (S.left source.old) (S.left source.new) self.old.spare) }
         ensures cause { HasReadCause (S.faults source.old) (S.faults source.new) result }
     {
@@ -244,7 +243,7 @@ impl LineBuffer {
         requires going { self.old.ended ≡ false }
         ensures ok { OnOk result (Fills (S.left source.old) (S.left source.new) self.old self.new) }
         ensures stopped { IfErr result (λ end. Stops end (S.left source.old) (S.left source.new) self.old self.new) }
-        ensures too_long { IsErrOf result ReadEnd.TooLong → IfSome (S.left source.old) (λ left. self.old.spare < length left) }
+        ensures too_long { IsErrOf result ReadEnd.TooLong → HasMore (S.left source.old) self.old.spare }
 
         // What was taken at an error: past the limit where that was too long, and else no more than the limit.
         ensures taken { IfErr result (λ end. TakesFront end (S.left source.old) (S.left source.new) self.old.spare) }
@@ -269,10 +268,11 @@ impl LineBuffer {
     /// - `Fault` where a read failed.
     /// - `TooLong` where more bytes came than the limit.
     pub fn skip_rest<S: Source>(&mut self, source: &mut S) -> Result<(), ReadEnd>
-        ensures ok { (self.old.ended ≡ true → IsAtEnd (S.left source.old)) → OnOk result (Skips (S.left source.old) (S.left source.new) self.old.spare) }
+        ensures ok { (self.old.ended ≡ true → IsAtEnd (S.left source.old)) →
+            OnOk result (Skips (S.left source.old) (S.left source.new) self.old.spare) }
         ensures ended { OnOk result (self.new ≡ record self.old { front = []; begun = []; ended = true }) }
         ensures going { OnErr result (self.new ≡ record self.old { front = []; begun = []; ended = false }) }
-        ensures too_long { IsErrOf result ReadEnd.TooLong → IfSome (S.left source.old) (λ left. self.old.spare < length left) }
+        ensures too_long { IsErrOf result ReadEnd.TooLong → HasMore (S.left source.old) self.old.spare }
 
         // What was taken at an error: past the limit where that was too long, and else no more than the limit.
         ensures taken { IfErr result (λ end. TakesFront end (S.left source.old) (S.left source.new) self.old.spare) }

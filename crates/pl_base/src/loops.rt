@@ -2,7 +2,7 @@
 ghost use Rattle.std.specs.Prelude.{◌≡◌, ◌≤◌, ◌<◌, [], length, vec_len, IfOk, IfErr, OnOk, OnErr, IfSome, IsErrOf};
 ghost use Rattle.std.specs.Io.KnownBytes.{Appends, Consumes, IsAtEnd};
 ghost use Rattle.pl_base.specs.Causes.{Rose, HasReadCause};
-ghost use Rattle.pl_base.specs.Fronts.{TakesFront, AppendsFront, AppendsLess};
+ghost use Rattle.pl_base.specs.Fronts.{HasMore, TakesFront, AppendsFront, AppendsLess};
 
 use crate::{Failed, Sink, Source};
 use std::alloc::{AllocError, Global};
@@ -47,13 +47,13 @@ fn fill<S: Source>(
     all: &mut Vec<u8>,
 ) -> Result<(), ReadEnd>
     requires room { 0 < length piece.old }
-    requires short { length piece.old ≤ 65536 }
+    requires short { length piece.old ≤ PIECE }
     requires empty { all.old.items ≡ [] }
     ensures whole { OnOk result (IfSome (S.left source.old) (λ left. left ≡ all.new.items)) }
     ensures end { OnOk result (IsAtEnd (S.left source.new)) }
     ensures within { OnOk result (vec_len all.new ≤ limit) }
     ensures read { OnOk result (Consumes (S.left source.old) (S.left source.new) all.new.items) }
-    ensures too_long { IsErrOf result ReadEnd.TooLong → IfSome (S.left source.old) (λ left. limit < length left) }
+    ensures too_long { IsErrOf result ReadEnd.TooLong → HasMore (S.left source.old) limit }
     ensures taken { IfErr result (λ end. TakesFront end (S.left source.old) (S.left source.new) limit) }
     ensures cause { HasReadCause (S.faults source.old) (S.faults source.new) result }
 {
@@ -86,7 +86,7 @@ pub fn read_all<S: Source>(alloc: Global, source: &mut S, limit: u32) -> Result<
     ensures within { IfOk result (λ bytes. vec_len bytes ≤ limit) }
     ensures read { IfOk result (λ bytes. Consumes (S.left source.old) (S.left source.new) bytes.items) }
 
-    ensures too_long { IsErrOf result ReadEnd.TooLong → IfSome (S.left source.old) (λ left. limit < length left) }
+    ensures too_long { IsErrOf result ReadEnd.TooLong → HasMore (S.left source.old) limit }
 
     // What was taken at an error: past the limit where that was too long, and else no more than the limit.
     ensures taken { IfErr result (λ end. TakesFront end (S.left source.old) (S.left source.new) limit) }

@@ -1,9 +1,8 @@
 //! A sink that keeps what is written in memory.
-ghost use Rattle.std.specs.Prelude.{◌≡◌, ◌≤◌, ◌<◌, ◌↔◌, [], length, Some, IsErr, IfOk, OnErr};
+ghost use Rattle.std.specs.Prelude.{◌≡◌, ◌≤◌, ◌<◌, ◌↔◌, length, Some, IsErr, IfOk, OnErr};
 ghost use Rattle.std.specs.Io.KnownBytes.{WriteAppends};
 ghost use Rattle.pl_base.specs.Causes.{HasCause};
-ghost use Rattle.pl_base.specs.FaultPlan.{new_plan};
-ghost use Rattle.pl_base.specs.MemSink.{FailsNext, taken, after_write, after_failed_write};
+ghost use Rattle.pl_base.specs.MemSink.{new_output, FailsNext, taken, after_write, after_failed_write};
 
 use crate::fault_plan::FaultPlan;
 use crate::{Failed, NoMemory, Sink};
@@ -41,7 +40,7 @@ impl MemSink {
     /// `NoMemory` where there was no memory for `room` bytes.
     pub fn new(alloc: Global, room: u32, piece: u32, fails: Vec<u32>) -> Result<MemSink, NoMemory>
         requires { 0 < piece }
-        ensures { IfOk result (λ sink. sink ≡ record { written = []; room = room; piece = piece; plan = new_plan fails.items }) }
+        ensures { IfOk result (λ sink. sink ≡ new_output room piece fails.items) }
     {
         let bytes = Vec::with_capacity(alloc, room as usize)?;
         Ok(MemSink {

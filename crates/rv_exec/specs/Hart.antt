@@ -1,5 +1,6 @@
 -- What a hart keeps between instructions.
 use Rattle.std.specs.Prelude.{ℕ, zero, suc, ◌+◌, ◌*◌, List, slice_index, slice_set, replicate}
+use Rattle.pl_base.specs.declared.layout.TheConstants.{STACKS_START, STACK_BYTES}
 
 -- the address of the next instruction, and the registers x0 to x31
 pub record Hart : Type 0 where
@@ -17,7 +18,7 @@ written (suc r) v registers = slice_set registers (suc r) v
 
 -- where the stack of a hart ends
 abbrev pub stack_end : ℕ → ℕ
-stack_end hart = 0xf00000 + (hart + 1) * 0x4000
+stack_end hart = STACKS_START + (hart + 1) * STACK_BYTES
 
 -- a hart at its entry: sp is x2, a0 is x10, and all other registers are 0
 abbrev pub started : ℕ → ℕ → Hart

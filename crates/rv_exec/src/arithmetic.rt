@@ -1,3 +1,4 @@
+//! What an operation computes, and when a branch is taken.
 ghost use Rattle.std.specs.Prelude.{◌≡◌, ◌^◌, pos, neg_ℤ, ◌*ℤ◌, ◌≤ℤ◌, ◌<ℤ◌};
 ghost use Rattle.rv_exec.specs.Meaning.{high, result_of, on_registers, is_taken, extended};
 

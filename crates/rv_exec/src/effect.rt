@@ -1,3 +1,4 @@
+//! What an instruction does to a hart and asks of memory.
 use crate::hart::HartState;
 use rv_isa::Instr;
 

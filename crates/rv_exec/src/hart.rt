@@ -1,3 +1,5 @@
+//! A hart between two instructions.
+use pl_base::layout::{STACK_BYTES, STACKS_START};
 use std::marker::Model;
 
 /// A hart between two instructions.
@@ -31,7 +33,7 @@ impl HartState {
         ensures { result ≡ started pc hart }
     {
         let mut registers = [0; 32];
-        registers[2] = 0xf00000 + (u32::from(hart) + 1) * 0x4000;
+        registers[2] = STACKS_START + (u32::from(hart) + 1) * STACK_BYTES;
         registers[10] = u32::from(hart);
         HartState { pc, registers }
     }

@@ -1,3 +1,4 @@
+//! One step of a hart.
 ghost use Rattle.std.specs.Prelude.{◌≡◌, ◌<◌, ◌↔◌, IsNone};
 ghost use Rattle.rv_isa.specs.Table.{instruction_of};
 ghost use Rattle.rv_isa.specs.Valid.{IsValid};

@@ -1,4 +1,6 @@
 use Rattle.std.proofs.Common.{rules}
+use Rattle.core_sim.specs.Valid.{HasTypedNumbers}
+use Rattle.guest_asm.specs.Jobs.{IsDrawn}
 use Rattle.guest_asm.proofs.Whole.{small, few_harts, has_schedule, has_steps, if_ok, if_ok_both, if_fault, text_of, valid_of, fault_of}
 use Rattle.guest_asm.proofs.Verdicts.{fault_no_job}
 use Rattle.guest_asm.proofs.One.{one_job}
@@ -20,7 +22,8 @@ pub returns-clause-ok : goal.returns-clause-ok
 returns-clause-ok c = let k = c.in_ok-scan.ensures.ok in if_ok _ _ c.build.result (text_of c.args.bytes.now c.in_ok-scan.scan k.0 k.1 k.2) c.build.ensures.ok
 
 pub returns-clause-valid : goal.returns-clause-valid
-returns-clause-valid c = let k = c.in_ok-scan.ensures.ok in if_ok_both _ _ _ c.build.result (valid_of c.args.bytes.now c.in_ok-scan.scan k.0 k.1 k.2) c.build.ensures.ok c.build.ensures.drawn
+returns-clause-valid c = let k = c.in_ok-scan.ensures.ok in if_ok_both _ _ _ c.build.result (valid_of c.args.bytes.now c.in_ok-scan.scan k.0 k.1 k.2) c.build.ensures.ok
+    (if_ok_both _ _ (λ job. IsDrawn job.schedule × HasTypedNumbers job) c.build.result (λ job drawn typed. (drawn, typed)) c.build.ensures.drawn c.build.ensures.typed)
 
 pub returns-clause-fault : goal.returns-clause-fault
 returns-clause-fault c = let k = c.in_ok-scan.ensures.ok in if_fault _ _ c.build.result (fault_of c.args.bytes.now c.in_ok-scan.scan k.0 k.1 k.2) c.build.ensures.fault

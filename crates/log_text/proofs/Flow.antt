@@ -1,26 +1,20 @@
 -- In a log that keeps the rules, arcs and notices lead forward.
-use Rattle.std.proofs.Common.{◌≡◌, ◌≢◌, ℕ, zero, suc, ◌+◌, ◌<◌, ◌≤◌, Bool, true, false, cond, eqb, ltb, leb, ◌&&◌, List, [], ◌∷◌, ◌++◌, map, take, drop, get_or, Option, Some, None, refl, sym, ap, subst, ◌∙◌, append_assoc, arith}
-use Rattle.std.specs.Prelude.{count_by}
+use Rattle.std.proofs.Common.{◌≡◌, ◌≢◌, ℕ, suc, ◌+◌, ◌<◌, ◌≤◌, Bool, true, false, eqb, ltb, leb, ◌&&◌, List, map, drop, refl, subst, arith}
 use Rattle.std.specs.List.{list_any, AllByRecursion}
 use Rattle.std.proofs.lemmas.Bool.{false≢true, ltb-false, leb-false, eqb-false, eq-eqb, or_parts}
-use Rattle.std.proofs.lemmas.List.{map-append, take-append-drop}
-use Rattle.std.proofs.lemmas.List.Folds.{list_any-append}
-use Rattle.std.proofs.lemmas.List.Sums.{sum_by-append, sum_by-cons}
 use mathlib.Core.Option.{some}
 use lib.ListN.{get_elem?}
 use Rattle.pl_event.specs.Edges.{IsFlow, notice_of}
 use Rattle.pl_event.specs.Numbers.{hart_of}
-use Rattle.pl_event.specs.Records.{records_before}
 use Rattle.pl_event.specs.declared.log.Line.{Line}
 use Rattle.pl_event.specs.declared.log.Log.{Log}
-use Rattle.pl_event.specs.declared.log.PageRun.{PageRun}
 use Rattle.pl_event.specs.declared.log.Point.{Point}
 use Rattle.pl_event.specs.declared.log.Record.{Record}
 use Rattle.pl_event.specs.declared.log.Record.TheVariants as entry
 use Rattle.pl_event.proofs.Places.{line_number_of, line_number_next}
 use Rattle.log_text.specs.declared.cause.LogCause.TheVariants.{Page}
 use Rattle.log_text.specs.Form.{IsPointInForm, most_written}
-use Rattle.log_text.specs.Spelling.{Entry, page, row, row_of, points_from, entries_of}
+use Rattle.log_text.specs.Spelling.{Entry, row, row_of, points_from}
 use Rattle.log_text.specs.WellFormed.{IsWritable, Continues, breaks, breaks_hart, breaks_arc, breaks_notice, names_past, is_bad_notice, is_waiting, is_pending, is_row_of, records_in, rules_of_any_length}
 use Rattle.log_text.proofs.ArcPoints.{arc_holds, none_passes}
 use Rattle.log_text.proofs.LinesBefore.{front_of, parted, records_at, fails_before}

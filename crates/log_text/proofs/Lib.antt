@@ -17,6 +17,7 @@ pub mod Flow
 pub mod LinesBefore
 pub mod MappedLines
 pub mod PageLemmas
+pub mod OneFault
 pub mod RowRules
 pub mod RuleLemmas
 pub mod RunOfText

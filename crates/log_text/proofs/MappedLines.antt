@@ -5,8 +5,6 @@ use Rattle.std.proofs.Math.Path.{fun_ext}
 use Rattle.std.proofs.lemmas.Bool.{or_parts, or_from, cases_eq}
 use Rattle.std.proofs.lemmas.List.Sums.{fold-append}
 use Rattle.pl_event.specs.Valid.{IsPageRange}
-use Rattle.pl_event.specs.declared.event.Kind.{Kind}
-use Rattle.pl_event.specs.declared.event.Kind.TheVariants.{Mp, Um}
 use Rattle.pl_event.specs.declared.log.Line.{Line}
 use Rattle.pl_event.specs.declared.log.Log.{Log}
 use Rattle.pl_event.specs.declared.log.PageRun.{PageRun}

@@ -1,12 +1,12 @@
 -- Some page that passes a test, and the table of pages.
-use Rattle.std.proofs.Common.{◌≡◌, ℕ, zero, suc, ◌+◌, ◌<◌, ◌≤◌, ◌⊎◌, inl, inr, Bool, true, false, not, cond, List, length, set, get_or, refl, sym, ◌∙◌, ap, arith}
+use Rattle.std.proofs.Common.{◌≡◌, ℕ, zero, suc, ◌+◌, ◌<◌, inl, inr, Bool, true, false, not, cond, List, length, set, get_or, refl, sym, ◌∙◌, ap, arith}
 use mathlib.Core.Bool.{beq}
 use Rattle.std.proofs.Math.Path.{fun_ext}
-use Rattle.std.proofs.lemmas.Bool.{le-leb, lt-leb, lt-ltb, le-ltb, cases_lt, cases_eq, and_left, and_right, and_from}
+use Rattle.std.proofs.lemmas.Bool.{cases_lt, cases_eq}
 use Rattle.std.proofs.lemmas.List.{get_or-set_same, get_or-set_other, get_or_read}
 use Rattle.pl_base.proofs.Pages.{marked-here, marked-before, marked-past, count_marked}
 use Rattle.log_text.specs.Pages.{some_page, holds_at}
-use Rattle.pl_base.specs.Pages.{is_among, marked, count_below}
+use Rattle.pl_base.specs.Pages.{marked, count_below}
 
 -- a write to a table of pages
 pub holds_at-set : (pages : List Bool) (at : ℕ) (answer : Bool) → at < length pages → holds_at (set pages at answer) ≡ marked (holds_at pages) at 1 answer

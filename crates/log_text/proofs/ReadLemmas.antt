@@ -12,9 +12,9 @@ use Rattle.log_text.specs.declared.cause.LogCause.TheVariants as cause
 use Rattle.log_text.specs.declared.cause.LogFault.{LogFault}
 use Rattle.log_text.specs.Begins.{Begins, BeginsWithHeader, BeginsWithNoRow, BeginsWithNoPage}
 use Rattle.log_text.specs.Form.{IsInForm, most_read}
-use Rattle.log_text.specs.Reading.{IsAlike, IsFaultAfter, IsRead, IsNoLog, IsOnly, with_line, with_pages}
+use Rattle.log_text.specs.Reading.{IsAlike, IsRead, IsNoLog, IsOnly, with_line, with_pages}
 use Rattle.log_text.specs.Spelling.{Entry, page, row, row_of, header_text, line_text, entry_text, entries_text, entries_of}
-use Rattle.log_text.specs.WellFormed.{broken, Continues, IsLawful, IsWellFormed, IsLogText, IsHeaderFault, IsLineFault, IsFirstFault, Stops, no_line, bad_line, bad_end, has_pending, rules_in_order}
+use Rattle.log_text.specs.WellFormed.{broken, Continues, IsLawful, IsWellFormed, IsLogText, IsLineFault, Stops, no_line, bad_line, bad_end, has_pending, rules_in_order}
 use Rattle.log_text.proofs.Same.{IsWhole, log-same}
 
 -- where a list with one more element is parted
@@ -32,10 +32,10 @@ parted_push {X = X} (w ∷ xs) x (b ∷ before) y after e =
       | inr h ↦ let same = h.1 in inr (h.0, cc)
     ]
 
-abbrev IsLawfulRead : ℕ → List Entry → Type 0
+abbrev pub IsLawfulRead : ℕ → List Entry → Type 0
 IsLawfulRead harts entries = IsLawful rules_in_order most_read harts entries
 
-abbrev ContinuesRead : ℕ → List Entry → Entry → Type 0
+abbrev pub ContinuesRead : ℕ → List Entry → Entry → Type 0
 ContinuesRead harts before e = Continues rules_in_order most_read harts before e
 
 lawful-nil : (harts : ℕ) → IsLawfulRead harts []
@@ -66,97 +66,6 @@ spelled-push head bytes rest after before entries e spelled begins is =
     ∙ ap (λ (t : List ℕ). head ++ t) (texts-push before e after ∙ ap (λ (es : List Entry). entries_text es ++ after) (sym is))
     ∙ sym (append_assoc head (entries_text entries) after)
 
--- Faults of the bytes after some lines
-
-abbrev fault_of : ℕ → LogCause → LogFault
-fault_of line cause = record { line = line; cause = cause }
-
-abbrev same_stop : ℕ → List Entry → List ℕ → LogFault → Type 0
-same_stop harts before end fault = (fault.line ≡ length before + 2) × Stops harts before end fault.cause
-
--- such a fault is that of the next line, or the next line is another and may follow
-after_here : (harts : ℕ) (before : List Entry) (rest : List ℕ) (fault : LogFault) (P : Type 0) → IsFaultAfter harts before rest fault → (same_stop harts before rest fault → P)
-    → ((x : Entry) (after : List ℕ) → rest ≡ line_text (entry_text x) ++ after → ContinuesRead harts before x → P) → P
-after_here harts before rest fault P is here next = at is.tail is.lawful is.left (is.line, is.stops)
-  where
-    at : (tail : List Entry) → IsLawfulRead harts (before ++ tail) → rest ≡ entries_text tail ++ is.end → same_stop harts (before ++ tail) is.end fault → P
-    at [] lawful left stops = here (subst (λ (es : List Entry). same_stop harts es rest fault) (append-nil before) (subst (λ (r : List ℕ). same_stop harts (before ++ []) r fault) (sym left) stops))
-    at (x ∷ tail) lawful left stops = next x (entries_text tail ++ is.end) (left ∙ append_assoc (line_text (entry_text x)) (entries_text tail) is.end) (lawful before tail x refl)
-
--- a cause is that of the fault
-abbrev Why : ℕ → List Entry → List ℕ → LogCause → LogCause → Type 0
-Why harts before rest why found = Stops harts before rest found → found ≡ why
-
-same_fault : (fault other : LogFault) → other.line ≡ fault.line → other.cause ≡ fault.cause → other ≡ fault
-same_fault fault other line cause = λ i. record { line = line i; cause = cause i }
-
-no_text : (rest after : List ℕ) (e : Entry) → rest ≡ [] → rest ≡ line_text (entry_text e) ++ after → ⊥
-no_text rest after e empty spelled = omega (arith, text_some e after, ap length (sym spelled ∙ empty))
-
-cause_none : (harts : ℕ) (before : List Entry) (rest : List ℕ) (found : LogCause) → 0 < length rest → ((e : Entry) (after : List ℕ) → IsInForm most_read e → rest ≡ line_text (entry_text e) ++ after → ⊥)
-    → Why harts before rest cause.Form found
-cause_none harts before rest found some nothing (no_line more none) = refl
-cause_none harts before rest found some nothing (bad_line e after form spelled broke) = absurd (nothing e after form spelled)
-cause_none harts before rest found some nothing (bad_end empty pending) = absurd (omega (arith, some, ap length empty))
-
-cause_broken : (harts : ℕ) (before : List Entry) (rest after : List ℕ) (e : Entry) (why found : LogCause) → Begins rest e after → broken harts before e ≡ Some why → Why harts before rest why found
-cause_broken harts before rest after e why found begins broke (no_line more none) = absurd (none e after begins.in_form begins.spelled)
-cause_broken harts before rest after e why found begins broke (bad_line x next form spelled broken_here) =
-    let both : Some found ≡ Some why = sym broken_here ∙ (ap (broken harts before) (begins.only x next form spelled).0 ∙ broke) in
-    cc
-cause_broken harts before rest after e why found begins broke (bad_end empty pending) = absurd (no_text rest after e empty begins.spelled)
-
-cause_open : (harts : ℕ) (before : List Entry) (rest : List ℕ) (found : LogCause) → rest ≡ [] → Why harts before rest cause.Open found
-cause_open harts before rest found empty (no_line more none) = absurd (omega (arith, more, ap length empty))
-cause_open harts before rest found empty (bad_line e after form spelled broke) = absurd (no_text rest after e empty spelled)
-cause_open harts before rest found empty (bad_end none pending) = refl
-
-no_stop : (harts : ℕ) (before : List Entry) (rest : List ℕ) (found : LogCause) → rest ≡ [] → has_pending before ≡ false → Stops harts before rest found → ⊥
-no_stop harts before rest found empty closed (no_line more none) = omega (arith, more, ap length empty)
-no_stop harts before rest found empty closed (bad_line e after form spelled broke) = no_text rest after e empty spelled
-no_stop harts before rest found empty closed (bad_end none pending) = false≢true (sym closed ∙ pending)
-
--- a line that may follow is no fault
-not_here : (harts : ℕ) (before : List Entry) (rest after : List ℕ) (e : Entry) (found : LogCause) → Begins rest e after → broken harts before e ≡ None → Stops harts before rest found → ⊥
-not_here harts before rest after e found begins none (no_line more missed) = missed e after begins.in_form begins.spelled
-not_here harts before rest after e found begins none (bad_line x next form spelled broke) =
-    let clash : None ≡ Some found = sym none ∙ (ap (broken harts before) (sym (begins.only x next form spelled).0) ∙ broke) in
-    cc
-not_here harts before rest after e found begins none (bad_end empty pending) = no_text rest after e empty begins.spelled
-
-fault-push : (harts : ℕ) (before : List Entry) (rest after : List ℕ) (e : Entry) (fault : LogFault) → Begins rest e after → broken harts before e ≡ None → IsFaultAfter harts before rest fault → IsFaultAfter harts (before ++ e ∷ []) after fault
-fault-push harts before rest after e fault begins none is = at is.tail is.lawful is.left (is.line, is.stops)
-  where
-    at : (tail : List Entry) → IsLawfulRead harts (before ++ tail) → rest ≡ entries_text tail ++ is.end → same_stop harts (before ++ tail) is.end fault → IsFaultAfter harts (before ++ e ∷ []) after fault
-    at [] lawful left stops =
-        let here : same_stop harts before rest fault = subst (λ (es : List Entry). same_stop harts es rest fault) (append-nil before) (subst (λ (r : List ℕ). same_stop harts (before ++ []) r fault) (sym left) stops) in
-        absurd (not_here harts before rest after e fault.cause begins none here.1)
-    at (x ∷ tail) lawful left stops =
-        let same = begins.only x (entries_text tail ++ is.end) (lawful before tail x refl).in_form (left ∙ append_assoc (line_text (entry_text x)) (entries_text tail) is.end) in
-        let moved : before ++ x ∷ tail ≡ (before ++ e ∷ []) ++ tail = ap (λ (y : Entry). before ++ y ∷ tail) same.0 ∙ sym (append_assoc before (e ∷ []) tail) in
-        let there : same_stop harts ((before ++ e ∷ []) ++ tail) is.end fault = subst (λ (es : List Entry). same_stop harts es is.end fault) moved stops in
-        record {
-          tail = tail;
-          end = is.end;
-          lawful = subst (IsLawfulRead harts) moved lawful;
-          left = sym same.1;
-          line = there.0;
-          stops = there.1;
-        }
-
-fault-first : (bytes rest : List ℕ) (harts block : ℕ) (fault : LogFault) → BeginsWithHeader bytes harts block rest → IsFirstFault bytes fault → IsFaultAfter harts [] rest fault
-fault-first bytes rest harts block fault header (inl h) = absurd (h.none harts block rest header.some header.few header.size header.spelled)
-fault-first bytes rest harts block fault header (inr f) =
-    let same = header.only f.harts f.block (entries_text f.before ++ f.rest) f.some f.few f.size (f.spelled ∙ append_assoc (line_text (header_text f.harts f.block)) (entries_text f.before) f.rest) in
-    record {
-      tail = f.before;
-      end = f.rest;
-      lawful = subst (λ (h : ℕ). IsLawfulRead h f.before) same.0 f.lawful;
-      left = sym same.2;
-      line = f.line;
-      stops = subst (λ (h : ℕ). Stops h f.before f.rest fault.cause) same.0 f.stops;
-    }
-
 -- behind the header
 abbrev pub bare : ℕ → ℕ → Log
 bare harts block = record { harts = harts; block = block; pages = []; lines = [] }
@@ -169,14 +78,13 @@ read-none bytes rest harts block header = record {
   eight = λ k d h. absurd (omega arith);
   spelled = header.spelled ∙ ap (λ (t : List ℕ). t ++ rest) (sym (append-nil (line_text (header_text harts block))));
   lawful = lawful-nil harts;
-  faults = λ fault first. fault-first bytes rest harts block fault header first;
   only = λ other text.
       let same = header.only other.harts other.block (entries_text (entries_of other)) text.formed.some text.formed.few text.formed.block text.spelled in
       record { same = same.0; size = same.1; tail = entries_of other; parted = refl; left = sym same.2 };
 }
 
 -- the rest of another log of the bytes, behind one more line
-alike-push : (harts block : ℕ) (before : List Entry) (rest after : List ℕ) (e : Entry) (other : Log) → IsWellFormed other → Begins rest e after → IsAlike harts block before rest other → IsAlike harts block (before ++ e ∷ []) after other
+pub alike-push : (harts block : ℕ) (before : List Entry) (rest after : List ℕ) (e : Entry) (other : Log) → IsWellFormed other → Begins rest e after → IsAlike harts block before rest other → IsAlike harts block (before ++ e ∷ []) after other
 alike-push harts block before rest after e other formed begins alike = alike-tail alike.tail alike.parted alike.left
   where
     alike-tail : (tail : List Entry) → entries_of other ≡ before ++ tail → rest ≡ entries_text tail → IsAlike harts block (before ++ e ∷ []) after other
@@ -211,9 +119,6 @@ read-push bytes rest after log new e read begins none same size whole entries =
       lawful =
           subst (λ (h : ℕ). IsLawfulRead h (entries_of new)) (sym same)
           (subst (IsLawfulRead log.harts) (sym entries) (lawful-push log.harts (entries_of log) e read.lawful (record { in_form = begins.in_form; breaks_none = none })));
-      faults = λ fault first.
-          subst (λ (h : ℕ). IsFaultAfter h (entries_of new) after fault) (sym same)
-          (subst (λ (es : List Entry). IsFaultAfter log.harts es after fault) (sym entries) (fault-push log.harts (entries_of log) rest after e fault begins none (read.faults fault first)));
       only = λ other text.
           subst (λ (h : ℕ). IsAlike h new.block (entries_of new) after other) (sym same)
           (subst (λ (b : ℕ). IsAlike log.harts b (entries_of new) after other) (sym size)
@@ -245,13 +150,8 @@ no_tail [] e = refl
 no_tail (t ∷ tail) e = absurd (omega (arith, text_some t (entries_text tail), ap length e))
 
 pub read-only : (bytes rest : List ℕ) (log : Log) → IsRead bytes rest log → rest ≡ [] → has_pending (entries_of log) ≡ false → IsOnly bytes log
-read-only bytes rest log read empty closed = record { text = text; one = one; sound = sound }
+read-only bytes rest log read empty closed = record { text = text; one = one }
   where
-    sound : (fault : LogFault) → IsFirstFault bytes fault → ⊥
-    sound fault first = after_here log.harts (entries_of log) rest fault ⊥ (read.faults fault first)
-        (λ here. no_stop log.harts (entries_of log) rest fault.cause empty closed here.1)
-        (λ x after spelled continues. no_text rest after x empty spelled)
-
     text : IsLogText bytes log
     text = record {
       formed = record { some = read.some; few = read.few; block = read.size; eight = read.eight; lawful = read.lawful; closed = closed };
@@ -266,6 +166,9 @@ read-only bytes rest log read empty closed = record { text = text; one = one; so
         log-same other log text.formed.eight read.eight alike.same alike.size entries
 
 -- Faults
+
+abbrev fault_of : ℕ → LogCause → LogFault
+fault_of line cause = record { line = line; cause = cause }
 
 line_fault : (bytes rest : List ℕ) (log : Log) (line : ℕ) (cause : LogCause) → IsRead bytes rest log → line ≡ length (entries_of log) + 2 → Stops log.harts (entries_of log) rest cause → IsLineFault bytes (fault_of line cause)
 line_fault bytes rest log line cause read at stops = record {
@@ -298,9 +201,6 @@ next_line bytes rest log other P read text some next = at alike.tail alike.parte
 pub fault-none : (bytes rest : List ℕ) (log : Log) (line : ℕ) → IsRead bytes rest log → line ≡ length (entries_of log) + 2 → 0 < length rest → BeginsWithNoRow rest → BeginsWithNoPage rest → IsNoLog bytes (fault_of line cause.Form)
 fault-none bytes rest log line read at some no_row no_page = record {
   first = inr (line_fault bytes rest log line cause.Form read at (no_line some nothing));
-  one = λ other first. after_here log.harts (entries_of log) rest other (other ≡ fault_of line cause.Form) (read.faults other first)
-      (λ here. same_fault (fault_of line cause.Form) other (here.0 ∙ sym at) (cause_none log.harts (entries_of log) rest other.cause some nothing here.1))
-      (λ x after spelled continues. absurd (nothing x after continues.in_form spelled));
   none = λ other text. next_line bytes rest log other ⊥ read text some (λ e after spelled continues. nothing e after continues.in_form spelled);
 }
   where
@@ -313,12 +213,6 @@ pub fault-broken : (bytes rest after : List ℕ) (log : Log) (line : ℕ) (e : E
     → IsNoLog bytes (fault_of line why)
 fault-broken bytes rest after log line e why read at begins broke = record {
   first = inr (line_fault bytes rest log line why read at (bad_line e after begins.in_form begins.spelled broke));
-  one = λ other first. after_here log.harts (entries_of log) rest other (other ≡ fault_of line why) (read.faults other first)
-      (λ here. same_fault (fault_of line why) other (here.0 ∙ sym at) (cause_broken log.harts (entries_of log) rest after e why other.cause begins broke here.1))
-      (λ x next spelled continues.
-      let same = begins.only x next continues.in_form spelled in
-      let clash : Some why ≡ None = sym broke ∙ ap (broken log.harts (entries_of log)) (sym same.0) ∙ continues.breaks_none in
-      absurd cc);
   none = λ other text.
       next_line bytes rest log other ⊥ read text (omega (arith, text_some e after, ap length begins.spelled))
       (λ x behind spelled continues.
@@ -331,9 +225,6 @@ fault-broken bytes rest after log line e why read at begins broke = record {
 pub fault-open : (bytes rest : List ℕ) (log : Log) (line : ℕ) → IsRead bytes rest log → line ≡ length (entries_of log) + 2 → rest ≡ [] → has_pending (entries_of log) ≡ true → IsNoLog bytes (fault_of line cause.Open)
 fault-open bytes rest log line read at empty pending = record {
   first = inr (line_fault bytes rest log line cause.Open read at (bad_end empty pending));
-  one = λ other first. after_here log.harts (entries_of log) rest other (other ≡ fault_of line cause.Open) (read.faults other first)
-      (λ here. same_fault (fault_of line cause.Open) other (here.0 ∙ sym at) (cause_open log.harts (entries_of log) rest other.cause empty here.1))
-      (λ x after spelled continues. absurd (no_text rest after x empty spelled));
   none = λ other text.
       let alike = read.only other text in
       let nothing : alike.tail ≡ [] = no_tail alike.tail (sym alike.left ∙ empty) in

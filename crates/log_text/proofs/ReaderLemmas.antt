@@ -1,5 +1,5 @@
 -- What a reader has read after one more line, and at the end.
-use Rattle.std.proofs.Common.{◌≡◌, ℕ, zero, suc, ◌+◌, ◌-◌, ◌%◌, ◌^◌, ◌<◌, Bool, true, false, List, [], ◌∷◌, ◌++◌, length, drop, Option, Some, None, refl, sym, ap, ◌∙◌, subst, append_assoc, arith, inl, inr}
+use Rattle.std.proofs.Common.{◌≡◌, ℕ, zero, suc, ◌+◌, ◌-◌, ◌%◌, ◌^◌, ◌<◌, Bool, true, false, List, [], ◌∷◌, ◌++◌, length, drop, Option, Some, None, refl, sym, ap, ◌∙◌, subst, arith, inl}
 use Rattle.std.specs.Prelude.{is_some, eqb, IfSome, IfNone, Err}
 use Rattle.std.specs.List.{All, list_any}
 use Rattle.std.proofs.lemmas.List.{append-nil, length-append}
@@ -12,7 +12,6 @@ use Rattle.pl_event.specs.declared.log.Point.{Point}
 use Rattle.pl_event.specs.declared.log.Record.{Record}
 use Rattle.log_text.specs.declared.cause.LogCause.{LogCause}
 use Rattle.log_text.specs.declared.cause.LogCause.TheVariants as cause
-use Rattle.log_text.specs.declared.cause.LogFault.{LogFault}
 use Rattle.log_text.specs.declared.cause.LogRefused.{LogRefused}
 use Rattle.log_text.specs.declared.cause.LogRefused.TheVariants as refused
 use Rattle.log_text.specs.declared.points.ArcList.{ArcList}
@@ -171,16 +170,11 @@ end_pages reader bytes text later after log run has begins =
 pub no_header : (text later : List ℕ) → HoldsLine text later → BeginsWithNoHeader text → IsNoLog (text ++ later) (record { line = 1; cause = cause.Header })
 no_header text later holds missed = record {
   first = inl (record { line = refl; named = refl; none = none });
-  one = one;
   none = λ log spelled. none log.harts log.block (entries_text (entries_of log)) spelled.formed.some spelled.formed.few spelled.formed.block spelled.spelled;
 }
   where
     none : BeginsWithNoHeader (text ++ later)
     none = no_header_longer text later holds missed
-
-    one : (other : LogFault) → IsFirstFault (text ++ later) other → other ≡ record { line = 1; cause = cause.Header }
-    one other (inl h) = λ i. record { line = h.line i; cause = h.named i }
-    one other (inr f) = absurd (none f.harts f.block (entries_text f.before ++ f.rest) f.some f.few f.size (f.spelled ∙ append_assoc (line_text (header_text f.harts f.block)) (entries_text f.before) f.rest))
 
 -- what a test for something tells
 pub some_is : {X : Type 0} (o : Option X) (P : X → Type 0) → is_some o ≡ true → IfSome o P → (x : X) × P x
@@ -236,7 +230,3 @@ first_fault S T (refused.Fault fault) bytes h = let here : IsNoLog bytes fault =
 pub no_log : (S T : Type 0) (why : LogRefused) (bytes : List ℕ) → IfFault {T = S} (Err why) (IsNoLog (bytes ++ [])) → IfFault {T = T} (Err why) (λ _. (log : Log) → IsLogText bytes log → ⊥)
 no_log S T refused.NoMemory bytes h = tt
 no_log S T (refused.Fault fault) bytes h = let here : IsNoLog bytes fault = subst (λ (b : List ℕ). IsNoLog b fault) (append-nil bytes) h in here.none
-
-pub one_fault : (S T : Type 0) (why : LogRefused) (bytes : List ℕ) → IfFault {T = S} (Err why) (IsNoLog (bytes ++ [])) → IfFault {T = T} (Err why) (λ fault. (other : LogFault) → IsFirstFault bytes other → other ≡ fault)
-one_fault S T refused.NoMemory bytes h = tt
-one_fault S T (refused.Fault fault) bytes h = let here : IsNoLog bytes fault = subst (λ (b : List ℕ). IsNoLog b fault) (append-nil bytes) h in here.one

@@ -1,15 +1,11 @@
 -- What the rules on lines give a reader of a log.
-use Rattle.std.proofs.Common.{◌≡◌, ℕ, zero, suc, ◌+◌, ◌%◌, ◌^◌, ◌<◌, ◌≤◌, max, Bool, true, false, cond, leb, List, [], ◌∷◌, ◌++◌, length, map, replicate, Option, Some, None, refl, sym, subst, ◌∙◌, append_assoc, arith}
+use Rattle.std.proofs.Common.{◌≡◌, ℕ, zero, suc, ◌+◌, ◌<◌, ◌≤◌, max, Bool, true, false, cond, leb, List, [], ◌∷◌, ◌++◌, length, map, replicate, Option, Some, None, refl, sym, subst, ◌∙◌, append_assoc, arith}
 use Rattle.std.specs.Prelude.{count_by, find, fold, All, Result, Ok, Err, IfOk}
 use Rattle.std.specs.List.{list_any, AllByRecursion}
-use Rattle.std.proofs.lemmas.Bool.{ltb-false, leb-false, eqb-true, not-false, or_parts}
+use Rattle.std.proofs.lemmas.Bool.{ltb-false, leb-false, not-false, or_parts}
 use Rattle.std.proofs.lemmas.List.Elements.{All-from_recursion}
 use Rattle.std.proofs.lemmas.List.Sums.{sum_by-append, sum_by_from}
-use Rattle.pl_base.specs.Widths.{load_bytes, store_bytes}
 use Rattle.pl_event.specs.Numbers.{hart_of}
-use Rattle.pl_event.specs.Valid.{HasValidFields}
-use Rattle.pl_event.specs.declared.event.Kind.{Kind}
-use Rattle.pl_event.specs.declared.event.Kind.TheVariants.{Ld, St, Op, Mv, Im, Br, Jr, Al, Fr, Bf, Mp, Um, Rd, Wr, Ex, Ft}
 use Rattle.pl_event.specs.declared.log.Line.{Line}
 use Rattle.pl_event.specs.declared.log.Log.{Log}
 use Rattle.pl_event.specs.declared.log.PageRun.{PageRun}
@@ -21,7 +17,7 @@ use Rattle.log_text.specs.declared.cause.LogRefused.{LogRefused}
 use Rattle.std.proofs.lemmas.List.{length-map}
 use Rattle.log_text.specs.declared.points.ArcList.{ArcList}
 use Rattle.log_text.specs.Arcs.{ShowsPoints, arc_of, is_rising, highest_hart}
-use Rattle.log_text.specs.Form.{IsInForm, IsRecordInForm, HasFormFields, most_read}
+use Rattle.log_text.specs.Form.{IsInForm, IsRecordInForm, most_read}
 use Rattle.log_text.specs.Parts.{HasValidParts, IsValidLine, IsValidRecord}
 use Rattle.log_text.specs.Reading.{IsOnly, arcs_of}
 use Rattle.log_text.specs.Spelling.{Entry, page, row, row_of, points_from, entries_of}

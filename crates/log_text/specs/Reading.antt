@@ -17,7 +17,7 @@ use Rattle.log_text.specs.Form.{most_read}
 use Rattle.log_text.specs.Parts.{IsValidLine}
 use Rattle.log_text.specs.Spelling.{Entry, header_text, line_text, entries_text, entries_of}
 use Rattle.log_text.specs.Tally.{Keeps}
-use Rattle.log_text.specs.WellFormed.{is_row, IsLawful, IsLogText, IsFirstFault, Stops, rules_in_order}
+use Rattle.log_text.specs.WellFormed.{is_row, IsLawful, IsLogText, IsFirstFault, rules_in_order}
 use Rattle.pl_event.specs.Runs.{IsBlockSize}
 
 -- another log of the bytes has the same lines so far
@@ -28,16 +28,7 @@ pub record IsAlike (harts block : ℕ) (before : List Entry) (rest : List ℕ) (
   pub parted : entries_of other ≡ before ++ tail
   pub left : rest ≡ entries_text tail
 
--- a first fault of the bytes is that of a line after these
-pub record IsFaultAfter (harts : ℕ) (before : List Entry) (rest : List ℕ) (fault : LogFault) : Type 0 where
-  pub tail : List Entry
-  pub end : List ℕ
-  pub lawful : IsLawful rules_in_order most_read harts (before ++ tail)
-  pub left : rest ≡ entries_text tail ++ end
-  pub line : fault.line ≡ length (before ++ tail) + 2
-  pub stops : Stops harts (before ++ tail) end fault.cause
-
--- the lines of the log follow its header, the rest follows them, and no other log and no fault of the bytes says otherwise
+-- the lines of the log follow its header, the rest follows them, and no other log of the bytes begins otherwise
 pub record IsRead (bytes rest : List ℕ) (log : Log) : Type 0 where
   pub some : 1 ≤ log.harts
   pub few : log.harts ≤ 8
@@ -46,7 +37,6 @@ pub record IsRead (bytes rest : List ℕ) (log : Log) : Type 0 where
   pub spelled : bytes ≡ line_text (header_text log.harts log.block) ++ entries_text (entries_of log) ++ rest
   pub lawful : IsLawful rules_in_order most_read log.harts (entries_of log)
   pub only : (other : Log) → IsLogText bytes other → IsAlike log.harts log.block (entries_of log) rest other
-  pub faults : (fault : LogFault) → IsFirstFault bytes fault → IsFaultAfter log.harts (entries_of log) rest fault
 
 -- the reader has read the lines of the log and refused none, and the rest follows them
 pub record IsReadBy (reader : LogReader) (bytes rest : List ℕ) (log : Log) : Type 0 where
@@ -97,16 +87,14 @@ pub record ReadsRow (reader : LogReader) (bytes rest : List ℕ) (log : Log) (ro
   pub valid : IsValidLine log.harts (line_of reader row)
   pub room : length log.lines < MAX_RECORDS
 
--- the bytes are the log's and no other's, and have no fault
+-- the bytes are the log's, and no other's
 pub record IsOnly (bytes : List ℕ) (log : Log) : Type 0 where
   pub text : IsLogText bytes log
   pub one : (other : Log) → IsLogText bytes other → other ≡ log
-  pub sound : (fault : LogFault) → IsFirstFault bytes fault → ⊥
 
--- the fault is the first one of the bytes and no other is, and no log has them
+-- the fault is the first one, and no log has these bytes
 pub record IsNoLog (bytes : List ℕ) (fault : LogFault) : Type 0 where
   pub first : IsFirstFault bytes fault
-  pub one : (other : LogFault) → IsFirstFault bytes other → other ≡ fault
   pub none : (log : Log) → IsLogText bytes log → ⊥
 
 -- what holds of a line that was found, and where none was

@@ -1,10 +1,10 @@
 -- Which lines may follow which, and the first line that may not.
-use Rattle.std.specs.Prelude.{◌≡◌, ℕ, ◌+◌, ◌%◌, ◌^◌, ◌<◌, ◌≤◌, ◌⊎◌, Bool, true, false, not, ◌&&◌, ◌||◌, ◌==◌, nat_lt, nat_le, List, [], ◌∷◌, ◌++◌, length, fold, count_by, filter, find, All, Option, Some, None, Result, Ok, Err}
+use Rattle.std.specs.Prelude.{◌≡◌, ℕ, ◌+◌, ◌%◌, ◌<◌, ◌≤◌, ◌⊎◌, Bool, true, false, not, ◌&&◌, ◌||◌, ◌==◌, nat_lt, nat_le, List, [], ◌∷◌, ◌++◌, length, fold, count_by, filter, find, All, Option, Some, None, Result, Ok, Err}
 use Rattle.std.specs.List.{list_any}
 use Rattle.pl_base.specs.declared.layout.TheConstants.{MAX_MAPPED_PAGES, MAX_RECORDS, MEMORY_BYTES, PAGE_COUNT}
 use Rattle.pl_base.specs.Widths.{load_bytes, store_bytes}
 use Rattle.pl_event.specs.declared.event.Kind.{Kind}
-use Rattle.pl_event.specs.declared.event.Kind.TheVariants.{Ld, St, Al, Fr, Mp, Um, Rd, Wr, Ex, Ft}
+use Rattle.pl_event.specs.declared.event.Kind.TheVariants.{Ld, St, Al, Fr, Mp, Um, Rd, Wr}
 use Rattle.pl_event.specs.declared.log.Log.{Log}
 use Rattle.pl_event.specs.declared.log.PageRun.{PageRun}
 use Rattle.pl_event.specs.declared.log.Point.{Point}

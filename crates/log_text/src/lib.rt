@@ -6,6 +6,7 @@
 #![tactic(auto)]
 
 mod cause;
+mod faults;
 mod grammar;
 mod judge;
 mod laws;
@@ -20,6 +21,7 @@ mod tally;
 mod write;
 
 pub use cause::{LogCause, LogFault, LogRefused};
+pub use faults::one_fault;
 pub use laws::log_laws;
 pub use read::read_log;
 pub use reader::Row;

@@ -1,6 +1,5 @@
 ghost use Rattle.std.specs.Prelude.{◌≡◌, ◌<◌, ◌≤◌, ◌^◌, ◌++◌, ◌∷◌, [], List, ℕ, length, drop, IfOk, OnOk};
 ghost use Rattle.pl_event.specs.declared.log.Log.{Log};
-ghost use Rattle.log_text.specs.declared.cause.LogFault.{LogFault};
 ghost use Rattle.log_text.specs.Parts.{HasValidParts};
 ghost use Rattle.log_text.specs.Reading.{HasRead, IsReadBy, IsOnly, IsNoLog, opened, line_of};
 ghost use Rattle.log_text.specs.WellFormed.{IsLogText, IsFirstFault, IfFault};
@@ -11,7 +10,7 @@ use pl_event::{Lines, Log, PageRuns};
 use std::alloc::{AllocError, Global};
 
 /// The log that the bytes spell, or the first line that breaks a rule and the first rule that it breaks. The text of a
-/// log that was read is the bytes that were read. Bytes have one log or one first fault, and never both.
+/// log that was read is the bytes that were read.
 pub fn read_log(alloc: Global, bytes: &[u8]) -> Result<Log, LogRefused>
     requires { length bytes.now < 2 ^ 31 }
     ensures ok { IfOk result (IsLogText bytes.now) }
@@ -19,8 +18,6 @@ pub fn read_log(alloc: Global, bytes: &[u8]) -> Result<Log, LogRefused>
     ensures parts { IfOk result HasValidParts }
     ensures fault { IfFault result (IsFirstFault bytes.now) }
     ensures none { IfFault result (λ _. (log : Log) → IsLogText bytes.now log → ⊥) }
-    ensures one_fault { IfFault result (λ fault. (other : LogFault) → IsFirstFault bytes.now other → other ≡ fault) }
-    ensures no_fault { IfOk result (λ _. (fault : LogFault) → IsFirstFault bytes.now fault → ⊥) }
 {
     match LogReader::open(alloc, bytes) {
         Ok(header) => read_opened(alloc, header, bytes),

@@ -3,7 +3,7 @@ use Rattle.std.proofs.lemmas.List.{append-nil}
 use Rattle.pl_event.specs.declared.log.Log.{Log}
 use Rattle.log_text.specs.declared.reader.Header.{Header}
 use Rattle.log_text.specs.Reading.{IsReadBy, last_bytes, opened}
-use Rattle.log_text.proofs.ReaderLemmas.{first_fault, no_log, one_fault}
+use Rattle.log_text.proofs.ReaderLemmas.{first_fault, no_log}
 use Rattle.log_text.proofs.RowLaws.{parts_if}
 use Rattle.log_text.proofs.read.read_log.Goals as goal
 
@@ -19,6 +19,3 @@ returns-in-Err-clause-fault c = first_fault Header Log c.in-Err.refused c.args.b
 
 pub returns-in-Err-clause-none : goal.returns-in-Err-clause-none
 returns-in-Err-clause-none c = no_log Header Log c.in-Err.refused c.args.bytes.now (c.in-Err.ensures.fault [] (last_bytes refl))
-
-pub returns-in-Err-clause-one_fault : goal.returns-in-Err-clause-one_fault
-returns-in-Err-clause-one_fault c = one_fault Header Log c.in-Err.refused c.args.bytes.now (c.in-Err.ensures.fault [] (last_bytes refl))

@@ -8,6 +8,8 @@ mod hart_steps;
 #[cfg(test)]
 mod kernel_events;
 #[cfg(test)]
+mod log_source;
+#[cfg(test)]
 mod machine_events;
 #[cfg(test)]
 mod many_reports;

@@ -1,5 +1,5 @@
 -- The last accesses of each hart, line by line.
-use Rattle.std.proofs.Common.{◌≡◌, ◌≢◌, ℕ, zero, suc, ◌+◌, ◌<◌, ◌≤◌, ◌⊎◌, Bool, true, false, List, [], ◌∷◌, max, Option, Some, None, refl, sym, ap, ◌∙◌, subst, inl, inr, ⊎_elim, arith}
+use Rattle.std.proofs.Common.{◌≡◌, ◌≢◌, ℕ, zero, suc, ◌+◌, ◌<◌, ◌≤◌, ◌⊎◌, Bool, true, false, List, max, Option, Some, None, refl, sym, ap, ◌∙◌, subst, inl, inr, ⊎_elim, arith}
 use mathlib.Core.Option.{some, some-injective}
 use mathlib.Core.Logic.{dite}
 use native.Mathlib.Decide.{ℕ_discrete}
@@ -9,7 +9,6 @@ use Rattle.pl_base.specs.declared.widths.LoadWidth.{LoadWidth}
 use Rattle.pl_base.specs.declared.widths.StoreWidth.{StoreWidth}
 use Rattle.pl_event.specs.declared.event.Kind.TheVariants.{Ld, St, Op, Mv, Im, Br, Jr, Al, Fr, Bf, Mp, Um, Rd, Wr, Ex, Ft}
 use Rattle.pl_event.specs.declared.log.Line.{Line}
-use Rattle.pl_event.specs.declared.log.Record.{Record}
 use Rattle.pl_event.specs.declared.log.Record.TheVariants as entry
 use Rattle.pl_event.specs.Candidates.{Shares}
 use Rattle.pl_event.specs.Conflicts.{Access, access_of, ShareBlock}
@@ -18,7 +17,7 @@ use Rattle.pl_event.specs.Records.{records_before, IsRecord, IsEvent}
 use Rattle.pl_event.proofs.Places.{before_up, one_place}
 use Rattle.log_clocks.specs.declared.lasts.LastAccesses.{LastAccesses}
 use Rattle.log_clocks.specs.LastAccesses.{last, IsAccess, HasLast}
-use Rattle.log_clocks.specs.inner.Rows.{in_row, row_at, newest, some_number, IsIndexed}
+use Rattle.log_clocks.specs.inner.Rows.{row_at, newest, some_number, IsIndexed}
 
 line_at : {x y : Line} → some x ≡ some y → x ≡ y
 line_at {x} {y} e = some-injective x y e

@@ -1,4 +1,4 @@
-use Rattle.std.proofs.Common.{◌≡◌, ℕ, ◌<◌, ◌≤◌, max, slice_index, length}
+use Rattle.std.proofs.Common.{◌≡◌, ℕ, ◌<◌, ◌≤◌, max, length}
 use Rattle.log_clocks.specs.Clocks.{time}
 use Rattle.log_clocks.proofs.clock.Clock.raise.Given as goal
 

@@ -1,8 +1,8 @@
-use Rattle.std.proofs.Common.{◌≡◌, ℕ, ◌+◌, true, false, max, sym, ap, ◌∙◌, subst}
+use Rattle.std.proofs.Common.{◌≡◌, ◌+◌, true, false, max, sym, ap, ◌∙◌, subst}
 use Rattle.log_clocks.specs.declared.clock.Clock.{Clock}
 use Rattle.log_clocks.specs.Clocks.{time, known}
 use Rattle.log_clocks.specs.inner.Joins.{IsJoin}
-use Rattle.log_clocks.proofs.Joining.{join_start, join_none, join_some}
+use Rattle.log_clocks.proofs.Joining.{join_none, join_some}
 use Rattle.log_clocks.proofs.clocks.Clocks.joined.Goals.{in-Some, in_default}
 use Rattle.log_clocks.proofs.clocks.Clocks.joined.Goals as goal
 

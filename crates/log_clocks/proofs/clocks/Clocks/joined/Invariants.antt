@@ -1,4 +1,4 @@
-use Rattle.std.proofs.Common.{◌≡◌, ◌≤◌, false}
+use Rattle.std.proofs.Common.{◌≡◌, false}
 use Rattle.log_clocks.specs.Clocks.{time, known}
 use Rattle.log_clocks.specs.inner.Joins.{IsJoin}
 use Rattle.log_clocks.proofs.clocks.Clocks.joined.Given as goal

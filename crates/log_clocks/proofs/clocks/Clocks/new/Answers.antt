@@ -1,4 +1,4 @@
-use Rattle.std.proofs.Common.{ℕ, List, [], ◌∷◌, ◌++◌, ap, ◌∙◌}
+use Rattle.std.proofs.Common.{List, [], ◌∷◌, ◌++◌, ap, ◌∙◌}
 use Rattle.log_clocks.specs.declared.clock.Clock.{Clock}
 use Rattle.log_clocks.proofs.Keeping.{no_clocks}
 use Rattle.log_clocks.proofs.clocks.Clocks.new.Goals as goal

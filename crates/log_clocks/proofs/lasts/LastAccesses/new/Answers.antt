@@ -1,4 +1,4 @@
-use Rattle.std.proofs.Common.{◌≡◌, ℕ, List, [], ◌∷◌, ◌++◌, get_or, refl, ap, ◌∙◌, subst, sym}
+use Rattle.std.proofs.Common.{◌≡◌, ℕ, List, [], ◌∷◌, ◌++◌, get_or, refl, ap, ◌∙◌}
 use Rattle.log_clocks.specs.declared.lasts.Row.{Row}
 use Rattle.log_clocks.specs.inner.Rows.{in_row, zero_row}
 use Rattle.log_clocks.proofs.RowLists.{zeros_at, in_zero_row, empty_indexed, empty_row}

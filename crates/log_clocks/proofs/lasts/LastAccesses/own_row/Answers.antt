@@ -1,4 +1,4 @@
-use Rattle.std.proofs.Common.{◌≡◌, ℕ, ◌<◌, List, [], ◌∷◌, ◌++◌, length, slice_index, set, refl, ap, sym, ◌∙◌, subst, arith, get_or-set_same}
+use Rattle.std.proofs.Common.{◌≡◌, ◌<◌, List, [], ◌∷◌, ◌++◌, length, slice_index, set, ap, sym, ◌∙◌, subst, arith, get_or-set_same}
 use Rattle.log_clocks.specs.declared.lasts.Row.{Row}
 use Rattle.log_clocks.specs.inner.Rows.{zero_row, row_at, IsIndexed}
 use Rattle.log_clocks.proofs.RowLists.{made_indexed, made_rows, made_some}

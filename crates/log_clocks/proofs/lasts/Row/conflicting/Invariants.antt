@@ -1,4 +1,4 @@
-use Rattle.std.proofs.Common.{◌≡◌, ℕ, ◌<◌, ◌≤◌, length, slice_index_or, None}
+use Rattle.std.proofs.Common.{◌≡◌, ℕ, ◌<◌, length, slice_index_or, None}
 use Rattle.log_clocks.specs.inner.Rows.{newest, some_number}
 use Rattle.log_clocks.proofs.lasts.Row.conflicting.Given as goal
 

@@ -1,0 +1,27 @@
+-- What a check of a log's order has shown of its first lines.
+use Rattle.std.specs.Prelude.{ℕ, ◌≤◌, All}
+use Rattle.pl_base.specs.declared.layout.TheConstants.{MAX_HARTS}
+use Rattle.pl_event.specs.declared.log.Log.{Log}
+use Rattle.pl_event.specs.Conflicts.{AreOrdered}
+use Rattle.pl_event.specs.Edges.{IsFlow}
+use Rattle.pl_event.specs.Heads.{Tells}
+use Rattle.pl_event.specs.Runs.{IsBlockSize, IsSoundLine}
+use Rattle.log_clocks.specs.Clocks.{HasClocks}
+use Rattle.log_clocks.specs.LastAccesses.{HasLast}
+use Rattle.log_check.specs.declared.order_check.OrderCheck.{OrderCheck}
+use Rattle.log_check.specs.inner.Watched.{IsWatched}
+
+-- a log of a run, or its first lines
+pub record IsCheckable (log : Log) : Type 0 where
+  pub few : log.harts ≤ MAX_HARTS
+  pub block : IsBlockSize log.block
+  pub sound : All (IsSoundLine log.harts) log.lines
+  pub flow : IsFlow log.harts log.lines
+
+-- the first i lines are taken, and each two conflicting events there are ordered
+pub record IsChecked (check : OrderCheck) (log : Log) (i : ℕ) : Type 0 where
+  pub tells : Tells check.heads log.lines i
+  pub clocks : HasClocks check.clocks log.lines i
+  pub lasts : HasLast check.lasts log.block log.lines i
+  pub alerts : IsWatched check.alerts log.lines i
+  pub ordered : AreOrdered log.block log.lines i

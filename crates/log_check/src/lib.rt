@@ -1,0 +1,17 @@
+//! The exact order check: each two conflicting events of a log are ordered, or the first pair that is not is named.
+//!
+//! A log is walked line by line. Two accesses of one block are ordered where the clock of the later one knows the
+//! earlier one, so an access is clear where its clock knows the last conflicting access of each other hart. A notice is
+//! the last record of its hart until its alert event has come, so whether a hart has the notice of an alert event is
+//! seen at the event itself; of what came before it is enough to keep which harts have missed an alert event, and which
+//! have had an access. Only where something is not clear the lines are passed again, for the earliest partner.
+#![tactic(auto)]
+
+mod alerts;
+mod conflicts;
+mod order_check;
+mod ordered;
+mod partner;
+
+pub use order_check::{OrderCheck, UnorderedPair};
+pub use ordered::{CheckRefused, OrderedLog, check};

@@ -1,0 +1,48 @@
+-- A clock is joined with the clocks of what is needed, hart by hart.
+use Rattle.std.proofs.Common.{◌≡◌, ℕ, ◌+◌, ◌<◌, ◌≤◌, ◌⊎◌, List, slice_index_or, max, sym, ◌∙◌, subst, inl, inr, ⊎_elim, arith, lt_of_not-le, Option, Some, None}
+use mathlib.Core.Logic.{dite}
+use native.Mathlib.Decide.{ℕ_discrete, dec_le}
+use Rattle.log_clocks.specs.inner.Joins.{IsJoin}
+
+within_max : (n a b : ℕ) → n ≤ max a b → (n ≤ a) ⊎ (n ≤ b)
+within_max n a b l = dite (dec_le n a) (λ (le : n ≤ a). inl le) (λ no. inr (let f : a < n = lt_of_not-le no in omega arith))
+
+module _ (needs : List (Option ℕ)) (t : ℕ → ℕ → ℕ → ℕ) (start : ℕ → ℕ) where
+  pub join_start : (v : ℕ → ℕ) → ((u : ℕ) → v u ≡ start u) → IsJoin needs 0 t start v
+  join_start v same = record {
+    before = λ u. let e : v u ≡ start u = same u in omega arith;
+    sources = λ w k low need u. absurd (let l : w < 0 = low in omega arith);
+    from = λ u n l. inl (let e : v u ≡ start u = same u in omega arith);
+  }
+
+  abbrev From : ℕ → ℕ → ℕ → Type 0
+  From b u n = (n ≤ start u) ⊎ ((w : ℕ) × (k : ℕ) × (w < b) × (slice_index_or needs w None ≡ Some k) × (n ≤ t w k u))
+
+  further : (b u n : ℕ) → From b u n → From (b + 1) u n
+  further b u n (inl a) = inl a
+  further b u n (inr p) = inr (p.0, p.1, (let l : p.0 < b = p.2 in omega arith), p.3, p.4)
+
+  pub join_none : (b : ℕ) (v : ℕ → ℕ) → ((k : ℕ) → slice_index_or needs b None ≡ Some k → ⊥) → IsJoin needs b t start v → IsJoin needs (b + 1) t start v
+  join_none b v none j = record {
+    before = j.before;
+    sources = λ w k low need u. dite (ℕ_discrete w b)
+        (λ e. absurd (none k (subst (λ (z : ℕ). slice_index_or needs z None ≡ Some k) e need)))
+        (λ ne. j.sources w k (omega arith) need u);
+    from = λ u n l. further b u n (j.from u n l);
+  }
+
+  one_value : {k y : ℕ} {o : Option ℕ} → o ≡ Some k → o ≡ Some y → k ≡ y
+  one_value p q = let s : Some _ ≡ Some _ = sym p ∙ q in cc
+
+  pub join_some : (b x : ℕ) (v v' : ℕ → ℕ) → slice_index_or needs b None ≡ Some x → ((u : ℕ) → v' u ≡ max (v u) (t b x u)) → IsJoin needs b t start v → IsJoin needs (b + 1) t start v'
+  join_some b x v v' is more j = record {
+    before = λ u. let a : start u ≤ v u = j.before u in let e : v' u ≡ max (v u) (t b x u) = more u in omega arith;
+    sources = λ w k low need u. let e : v' u ≡ max (v u) (t b x u) = more u in dite (ℕ_discrete w b)
+        (λ same. let num : k ≡ x = one_value (subst (λ (z : ℕ). slice_index_or needs z None ≡ Some k) same need) is in
+        subst (λ (z : ℕ × ℕ). t z.0 z.1 u ≤ v' u) (λ i. (sym same i, sym num i)) (omega arith))
+        (λ ne. let a : t w k u ≤ v u = j.sources w k (omega arith) need u in omega arith);
+    from = λ u n l. let e : v' u ≡ max (v u) (t b x u) = more u in ⊎_elim
+        (λ (a : n ≤ v u). further b u n (j.from u n a))
+        (λ (a : n ≤ t b x u). inr (b, x, omega arith, is, a))
+        (within_max n (v u) (t b x u) (omega arith));
+  }

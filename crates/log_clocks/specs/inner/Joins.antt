@@ -1,0 +1,8 @@
+-- A clock that was raised by the clocks of the records that are needed.
+use Rattle.std.specs.Prelude.{◌≡◌, ℕ, ◌<◌, ◌≤◌, ◌⊎◌, List, Option, Some, None, slice_index_or}
+
+-- `clock` joins `start` with the clocks in the table of what is needed of the harts below b
+pub record IsJoin (needs : List (Option ℕ)) (b : ℕ) (table : ℕ → ℕ → ℕ → ℕ) (start clock : ℕ → ℕ) : Type 0 where
+  pub before : (u : ℕ) → start u ≤ clock u
+  pub sources : (w k : ℕ) → w < b → slice_index_or needs w None ≡ Some k → (u : ℕ) → table w k u ≤ clock u
+  pub from : (u n : ℕ) → n ≤ clock u → (n ≤ start u) ⊎ ((w : ℕ) × (k : ℕ) × (w < b) × (slice_index_or needs w None ≡ Some k) × (n ≤ table w k u))

@@ -1,0 +1,147 @@
+//! The clocks of all records so far.
+ghost use Rattle.std.specs.Prelude.{◌≡◌, ℕ, suc, ◌+◌, ◌^◌, ◌<◌, ◌≤◌, [], ◌∷◌, ◌++◌, List, length, false, IfOk, slice_index, slice_index_or};
+ghost use Rattle.pl_event.specs.declared.log.Line.{Line};
+ghost use Rattle.pl_event.specs.Edges.{IsFlow, Into};
+ghost use Rattle.pl_event.specs.Graph.{IsClock};
+ghost use Rattle.pl_event.specs.Heads.{IsNext};
+ghost use Rattle.pl_event.specs.Needs.{needs_of};
+ghost use Rattle.pl_event.specs.Records.{records_before};
+
+use crate::clock::Clock;
+use pl_base::NoMemory;
+use pl_event::Arcs;
+use std::alloc::{AllocError, Global};
+
+/// The clock of each record so far, by its hart and number.
+#[derive(Drop)]
+pub struct Clocks {
+    // which clock each record of a hart has
+    slots: Vec<Vec<u32>>,
+    kept: Vec<Clock>,
+    ghost eight: { length slots.items ≡ 8 },
+}
+
+impl Clocks {
+    ghost use Rattle.log_clocks.specs.Clocks.{time, slots, kept_at, slot_of, known, HasClocks};
+    ghost use Rattle.log_clocks.specs.inner.Joins.{IsJoin};
+
+    /// Of no record.
+    pub fn new(alloc: Global) -> Result<Clocks, NoMemory>
+        ensures { IfOk result (λ clocks. (harts : ℕ) (lines : List Line) → IsFlow harts lines → HasClocks clocks lines 0) }
+    {
+        let mut slots = Vec::new(alloc);
+        for _hart in 0..8u8 {
+            slots.push(Vec::new(alloc))?;
+        }
+        let mut kept = Vec::new(alloc);
+        kept.push(Clock::zero())?;
+        Ok(Clocks { slots, kept })
+    }
+
+    // How many records a hart has so far.
+    fn count(&self, hart: u8) -> usize
+        requires { hart < 8 }
+        ensures { result ≡ length (slots self.now hart) }
+    {
+        self.slots[hart as usize].len()
+    }
+
+    /// The clock of a record.
+    pub fn of(&self, hart: u8, number: u32) -> Clock
+        requires { hart < 8 }
+        ensures { (u : ℕ) → time result u ≡ known self.now hart number u }
+    {
+        if number == 0 {
+            return Clock::zero();
+        }
+        let mut clock = self.clock_in(self.slot(hart, number));
+        clock.set(hart, number);
+        clock
+    }
+
+    // Which clock a record has.
+    fn slot(&self, hart: u8, number: u32) -> u32
+        requires { hart < 8 }
+        ensures { result ≡ slot_of self.now hart number }
+    {
+        let slots = &self.slots[hart as usize];
+        let number = number as usize;
+        if number == 0 || number > slots.len() {
+            0
+        } else {
+            slots[number - 1]
+        }
+    }
+
+    // The clock that is kept there.
+    fn clock_in(&self, slot: u32) -> Clock
+        ensures { (u : ℕ) → time result u ≡ time (kept_at self.now slot) u }
+    {
+        let slot = slot as usize;
+        if slot < self.kept.len() {
+            self.kept[slot]
+        } else {
+            Clock::zero()
+        }
+    }
+
+    // The clock of a hart's last record, raised by those of the records that are needed, and whether one was.
+    fn joined(&self, clock: Clock, needs: &Arcs) -> (Clock, bool)
+        ensures joined { IsJoin needs.now 8 (known self.now) (time clock) (time result.0) }
+        ensures same { result.1 ≡ false → result.0 ≡ clock }
+    {
+        let mut joined = clock;
+        let mut is_raised = false;
+        for u in 0..8u8 {
+            if let Some(number) = needs.get(u) {
+                joined.raise(&self.of(u, number));
+                is_raised = true;
+            }
+        }
+        (joined, is_raised)
+    }
+
+    // Keeps a clock, and tells where.
+    fn keep(&mut self, clock: Clock) -> Result<u32, NoMemory>
+        ensures slots { self.new.slots ≡ self.old.slots }
+        ensures kept { IfOk result (λ slot. (slot ≡ length self.old.kept.items) × (self.new.kept.items ≡ self.old.kept.items ++ clock ∷ [])) }
+    {
+        let slot = self.kept.len();
+        if slot >= u32::MAX as usize {
+            return Err(NoMemory);
+        }
+        self.kept.push(clock)?;
+        Ok(slot as u32)
+    }
+
+    // One more record of a hart.
+    fn add(&mut self, hart: u8, slot: u32) -> Result<(), NoMemory>
+        requires { hart < 8 }
+        ensures kept { self.new.kept ≡ self.old.kept }
+        ensures added { IfOk result (λ _. slots self.new hart ≡ slots self.old hart ++ slot ∷ []) }
+        ensures others { (u : ℕ) → (u ≡ hart → ⊥) → slots self.new u ≡ slots self.old u }
+    {
+        self.slots[hart as usize].push(slot)?;
+        Ok(())
+    }
+
+    /// Takes the next record, of this hart, which needs these records of other harts, and gives its clock. Without
+    /// memory nothing is said of the clocks from then on.
+    pub fn next(&mut self, hart: u8, needs: &Arcs) -> Result<Clock, NoMemory>
+        requires hart { hart < 8 }
+        requires few { length (slots self.old hart) + 1 < 2 ^ 32 }
+        ensures { (harts : ℕ) (lines : List Line) (i : ℕ) (line : Line) →
+            IsFlow harts lines → harts ≤ 8 → HasClocks self.old lines i → IsNext lines i hart line →
+            needs.now ≡ needs_of lines hart (records_before hart lines i + 1) →
+            IfOk result (λ clock. IsClock (Into lines) hart (records_before hart lines i + 1) (time clock)
+            × HasClocks self.new lines (i + 1) × (time clock hart ≡ records_before hart lines i + 1)) }
+    {
+        let number = self.count(hart) as u32;
+        let last = self.slot(hart, number);
+        let (mut clock, is_raised) = self.joined(self.clock_in(last), needs);
+        clock.set(hart, number + 1);
+        let slot = if is_raised { self.keep(clock)? } else { last };
+        self.add(hart, slot)?;
+        Ok(clock)
+    }
+}

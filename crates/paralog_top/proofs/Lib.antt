@@ -4,3 +4,5 @@ pub mod Refusals
 pub mod RowLemmas
 pub mod RunLemmas
 pub mod Inputs
+pub mod Calls
+pub mod Complete

@@ -1,6 +1,6 @@
 -- Playing one more line.
 use Rattle.std.specs.Prelude.{Ok}
-use Rattle.std.proofs.Common.{◌≡◌, Option, Some, ℕ, suc, ◌<◌, ◌≤◌, List, [], ◌∷◌, ◌++◌, length, Bool, sym, subst, ◌∙◌, arith}
+use Rattle.std.proofs.Common.{◌≡◌, Option, Some, ℕ, suc, ◌<◌, ◌≤◌, List, [], ◌∷◌, ◌++◌, length, sym, subst, ◌∙◌, arith}
 use Rattle.std.specs.List.{cons_option}
 use Rattle.std.proofs.lemmas.List.Elements.{filter_map-append}
 use Rattle.pl_event.specs.declared.event.Event.{Event}
@@ -20,6 +20,7 @@ use Rattle.lifeguard.specs.Rules.{Rules}
 use Rattle.lifeguard.specs.declared.shadow.Shadow.{Shadow}
 use Rattle.lifeguard.specs.Shadow.{Represents, place_of}
 use Rattle.paralog_top.specs.Defined.{IsResult, IsReplayUnder}
+use Rattle.paralog_top.specs.declared.answer.Verdict.{Verdict}
 use Rattle.paralog_top.specs.Playing.{IsPlaying, WasPlayed}
 
 few_of : (what : Record) (events : List Event) → length (cons_option (event_of what) events) ≤ suc (length events)
@@ -83,9 +84,9 @@ begins_playing {G} rules guard first limit began now opening harts shadow pages 
 }
 
 -- the result of a log that was played
-pub is_replayed : {G : Type 0} (rules : G → Rules) (guard first : G) (limit : ℕ) (began now : Option (List ℕ)) (harts after : ℕ) (shadow : Shadow) (text : List ℕ) (reported : Bool) → first ≡ guard → after ≡ harts → WasPlayed (rules first) harts limit began now shadow
-    → ((log : Log) → log.harts ≡ after → Represents (rules guard) log.pages (events_of log.lines) shadow → IsResult (rules guard) log text reported) → WasRead limit began now (λ bytes. IsReplayUnder (rules guard) bytes text reported)
-is_replayed {G} rules guard first limit began now harts after shadow text reported same few played result = record {
+pub is_replayed : {G : Type 0} (rules : G → Rules) (guard first : G) (limit : ℕ) (began now : Option (List ℕ)) (harts after : ℕ) (shadow : Shadow) (text : List ℕ) (verdict : Verdict) → first ≡ guard → after ≡ harts → WasPlayed (rules first) harts limit began now shadow
+    → ((log : Log) → log.harts ≡ after → Represents (rules guard) log.pages (events_of log.lines) shadow → IsResult (rules guard) log text verdict) → WasRead limit began now (λ bytes. IsReplayUnder (rules guard) bytes text verdict)
+is_replayed {G} rules guard first limit began now harts after shadow text verdict same few played result = record {
   bytes = played.bytes;
   consumed = played.consumed;
   end = played.end;

@@ -1,8 +1,10 @@
+pub mod Asked
 pub mod Commands
 pub mod Defined
-pub mod Endings
-pub mod Playing
-pub mod Refusals
-pub mod RunText
 pub mod Runs
+pub mod RunText
+pub mod Refusals
+pub mod Notes
 pub mod Statuses
+pub mod Playing
+pub mod inner

@@ -1,22 +1,123 @@
--- The statuses by number, and which of them say that the answer was written.
-use Rattle.std.specs.Prelude.{ℕ, Bool, true, false}
+-- The statuses: their numbers, and what each says of a call.
+use Rattle.std.specs.Prelude.{◌≡◌, ℕ, ◌≤◌, List, Some, codes, length}
+use Rattle.std.specs.Io.KnownBytes.{Appends}
+use Rattle.pl_base.specs.declared.loops.ReadEnd.TheVariants as end
+use Rattle.pl_base.specs.Causes.{Rose}
+use Rattle.pl_base.specs.Fronts.{AppendsLess}
+use Rattle.pl_event.specs.declared.log.Point.{Point}
+use Rattle.guest_asm.specs.declared.cause.JobFault.{JobFault}
+use Rattle.log_text.specs.declared.cause.LogFault.{LogFault}
+use Rattle.paralog_top.specs.declared.answer.Answer.{Answer}
+use Rattle.paralog_top.specs.declared.answer.Verdict.{Verdict}
+use Rattle.paralog_top.specs.declared.answer.Verdict.TheVariants as verdict
+use Rattle.paralog_top.specs.declared.command.Command.{Command}
+use Rattle.paralog_top.specs.declared.refusal.Refusal.{Refusal}
+use Rattle.paralog_top.specs.declared.refusal.Refusal.TheVariants as refusal
 use Rattle.paralog_top.specs.declared.status.Status.{Status}
-use Rattle.paralog_top.specs.declared.status.Status.TheVariants.{Clean, Reports, Usage, BadJob, BadLog, Unordered, ReadFault, WriteFault, NoMemory, TooLong}
+use Rattle.paralog_top.specs.declared.status.Status.TheVariants as status
+use Rattle.paralog_top.specs.Asked.{Asked, Told}
+use Rattle.paralog_top.specs.Commands.{IsCommand, IsNoCommand, IsOne, limit_of, names_of}
+use Rattle.paralog_top.specs.Defined.{IsAnswer, IsInput}
+use Rattle.paralog_top.specs.Notes.{IsKept, IsNoted, job_note, log_note, unordered_note}
+use Rattle.paralog_top.specs.Refusals.{IsFaultless, IsRefusal, Reads, Takes}
 
 abbrev pub status_code : Status → ℕ
-status_code Clean = 0
-status_code Reports = 1
-status_code Usage = 2
-status_code BadJob = 3
-status_code BadLog = 4
-status_code Unordered = 5
-status_code ReadFault = 6
-status_code WriteFault = 7
-status_code NoMemory = 8
-status_code TooLong = 9
+status_code status.Clean = 0
+status_code status.Reports = 1
+status_code status.Usage = 2
+status_code status.BadJob = 3
+status_code status.BadLog = 4
+status_code status.Unordered = 5
+status_code status.ReadFault = 6
+status_code status.WriteFault = 7
+status_code status.NoMemory = 8
+status_code status.TooLong = 9
 
--- P holds of whether there is a report, where the answer was written
-abbrev pub IfDone : Status → (Bool → Type 0) → Type 0
-IfDone Clean P = P false
-IfDone Reports P = P true
-IfDone _ P = Unit {0}
+-- ---- how a call ends, from its answer or its refusal on
+
+-- this text was written, and nothing else
+abbrev pub IsWritten : Told → List ℕ → Type 0
+IsWritten out text = Appends out.before out.after text × IsFaultless out
+
+-- a prefix of the text was written, and not all of it, and a fault was counted
+abbrev pub IsCut : Told → List ℕ → Type 0
+IsCut out text = AppendsLess out.before out.after text × Rose out.faults_before out.faults_after
+
+-- what the status says of an answer that was to be written
+abbrev pub Delivers : Answer → Told → Told → Status → Type 0
+Delivers answer out notes status.Clean = (answer.verdict ≡ verdict.Clean) × IsWritten out answer.text.items × IsKept notes
+Delivers answer out notes status.Reports = (answer.verdict ≡ verdict.Reports) × IsWritten out answer.text.items × IsKept notes
+Delivers answer out notes status.Unordered = (earlier : Point) × (later : Point) × (answer.verdict ≡ verdict.Unordered earlier later)
+    × IsWritten out answer.text.items × IsNoted notes (unordered_note earlier later)
+Delivers answer out notes status.WriteFault = IsCut out answer.text.items × IsNoted notes (codes "paralog: write fault\n")
+Delivers answer out notes status.NoMemory = IsKept out × IsFaultless out × IsNoted notes (codes "paralog: out of memory\n")
+Delivers answer out notes _ = ⊥
+
+-- the refusal is told in a line that takes memory, or is itself want of it
+abbrev pub MayRunOut : Refusal → Type 0
+MayRunOut refusal.ReadFault = ⊥
+MayRunOut refusal.TooLong = ⊥
+MayRunOut _ = Unit {0}
+
+-- what the status says of a refusal
+abbrev pub Tells : Refusal → Told → Status → Type 0
+Tells r notes status.BadJob = (fault : JobFault) × (r ≡ refusal.BadJob fault) × IsNoted notes (job_note fault)
+Tells r notes status.BadLog = (fault : LogFault) × (r ≡ refusal.BadLog fault) × IsNoted notes (log_note fault)
+Tells r notes status.ReadFault = (r ≡ refusal.ReadFault) × IsNoted notes (codes "paralog: read fault\n")
+Tells r notes status.TooLong = (r ≡ refusal.TooLong) × IsNoted notes (codes "paralog: too long\n")
+Tells r notes status.NoMemory = MayRunOut r × IsNoted notes (codes "paralog: out of memory\n")
+Tells r notes _ = ⊥
+
+-- ---- the whole call
+
+-- the words are a command, its input was read to its end, and the answer to its bytes was written, and nothing else
+abbrev pub Answers : Asked → Told → Told → Verdict → Type 0
+Answers asked input out v = IsOne asked (λ command. Reads (limit_of command) input (λ bytes.
+    (text : List ℕ) × IsAnswer asked.meanings (names_of asked.words) command bytes text v × IsWritten out text))
+
+-- the same, but that a write failed
+abbrev pub AnswersLess : Asked → Told → Told → Type 0
+AnswersLess asked input out = IsOne asked (λ command. Reads (limit_of command) input (λ bytes.
+    (text : List ℕ) × (v : Verdict) × IsAnswer asked.meanings (names_of asked.words) command bytes text v × IsCut out text))
+
+-- the words are a command that has no answer to its input, and nothing was written
+abbrev pub Refuses : Asked → Told → Told → Refusal → Type 0
+Refuses asked input out r = IsOne asked (λ command. IsRefusal command input r) × IsKept out
+
+-- the words are a command, no more was taken than its limit, and nothing was written; no fault was counted
+abbrev pub RunsOut : Asked → Told → Told → Type 0
+RunsOut asked input out = IsOne asked (λ command. Takes end.NoMemory input (limit_of command)) × IsFaultless input × IsKept out × IsFaultless out
+
+-- what each status says of the words, the input, the output and the notes
+abbrev pub Says : Asked → Told → Told → Told → Status → Type 0
+Says asked input out notes status.Clean = Answers asked input out verdict.Clean × IsKept notes
+Says asked input out notes status.Reports = Answers asked input out verdict.Reports × IsKept notes
+Says asked input out notes status.Usage = IsNoCommand asked.meanings asked.words × IsKept out × IsNoted notes (codes "paralog: usage\n")
+Says asked input out notes status.BadJob = (fault : JobFault) × Refuses asked input out (refusal.BadJob fault) × IsNoted notes (job_note fault)
+Says asked input out notes status.BadLog = (fault : LogFault) × Refuses asked input out (refusal.BadLog fault) × IsNoted notes (log_note fault)
+Says asked input out notes status.Unordered = (earlier : Point) × (later : Point)
+    × Answers asked input out (verdict.Unordered earlier later) × IsNoted notes (unordered_note earlier later)
+Says asked input out notes status.ReadFault = Refuses asked input out refusal.ReadFault × IsNoted notes (codes "paralog: read fault\n")
+Says asked input out notes status.WriteFault = AnswersLess asked input out × IsNoted notes (codes "paralog: write fault\n")
+Says asked input out notes status.NoMemory = RunsOut asked input out × IsNoted notes (codes "paralog: out of memory\n")
+Says asked input out notes status.TooLong = Refuses asked input out refusal.TooLong × IsNoted notes (codes "paralog: too long\n")
+
+-- ---- completeness
+
+-- the answer was written, or there was no memory
+abbrev pub IsComplete : Status → Type 0
+IsComplete status.Clean = Unit {0}
+IsComplete status.Reports = Unit {0}
+IsComplete status.NoMemory = Unit {0}
+IsComplete _ = ⊥
+
+-- the words are a command, the source has an input of it within the limit left, and no fault was counted
+pub record IsGood (asked : Asked) (input out : Told) : Type 0 where
+  pub command : Command
+  pub words : IsCommand asked.meanings asked.words command
+  pub bytes : List ℕ
+  pub left : input.before ≡ Some bytes
+  pub few : length bytes ≤ limit_of command
+  pub known : IsInput command bytes
+  pub read : Rose input.faults_before input.faults_after → ⊥
+  pub written : Rose out.faults_before out.faults_after → ⊥

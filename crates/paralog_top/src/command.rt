@@ -1,3 +1,4 @@
+//! The words of a command.
 ghost use Rattle.std.specs.Prelude.{◌≡◌, ◌↔◌, ◌∷◌, [], List, ◌+◌, ◌<◌, ◌^◌, IsTrue, MatchOption, bytes_eq, length, map, string_bytes};
 ghost use Rattle.std.specs.List.{list_any, position_from};
 ghost use Rattle.replay_probes.specs.Meaning.{Meaning};
@@ -13,13 +14,15 @@ pub enum Command {
     Replay(Name),
     /// `probe L NAME..`: the same, and a line of each named probe.
     Probe(Name),
+    /// `check`: whether the records of a log are ordered.
+    Check,
     /// `run`: the run text of a job.
     Run,
     /// `list`: the listing of a job.
     List,
 }
 
-/// The words behind the first two.
+/// The words after the first two.
 pub fn names_of(words: &[String]) -> &[String]
     ensures { map string_bytes result.now ≡ names_of_words (map string_bytes words.now) }
 {
@@ -48,6 +51,7 @@ fn parse_verb(verb: &str) -> Option<Command>
     ensures { (meanings : List Meaning) → MatchOption result (IsNoCommand meanings (verb.now ∷ [])) (IsCommand meanings (verb.now ∷ [])) }
 {
     match verb {
+        "check" => Some(Command::Check),
         "run" => Some(Command::Run),
         "list" => Some(Command::List),
         _ => None,
@@ -89,7 +93,7 @@ fn are_probe_names(names: &[String], probes: &[Box<dyn Probe>]) -> bool
     !names.is_empty() && names.len() <= 8 && are_different(names) && are_known(names, probes)
 }
 
-/// Whether no name stands twice.
+/// Whether no name comes twice.
 fn are_different(names: &[String]) -> bool
     ensures { result ≡ are_different_names (map string_bytes names.now) }
 {

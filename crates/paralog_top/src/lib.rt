@@ -5,13 +5,15 @@
 #![tactic(auto)]
 
 mod answer;
+mod check;
 mod command;
-mod ending;
+mod ends;
+mod input;
 mod list;
 mod notes;
 mod played;
 mod probed;
-mod refused;
+mod refusal;
 mod replay;
 mod result;
 mod run;

@@ -1,3 +1,4 @@
+//! A log that is played before probes.
 ghost use Rattle.std.specs.Prelude.{◌≡◌, [], All, IfOk, map};
 ghost use Rattle.pl_event.specs.Numbers.{events_of};
 ghost use Rattle.log_text.specs.Parts.{HasValidParts};
@@ -31,7 +32,7 @@ pub fn play(
 ) -> Result<Played, NoMemory>
     requires valid { HasValidParts log.now }
     requires fresh { All (λ p. has_seen p []) probes.items }
-    ensures result { IfOk result (λ played. IsResult (rules_of guard) log.now played.answer.text.items played.answer.reported) }
+    ensures result { IfOk result (λ played. IsResult (rules_of guard) log.now played.answer.text.items played.answer.verdict) }
     ensures lines { IfOk result (λ played. map (λ line. line.items) played.lines.items ≡ map (line_over (events_of log.now.lines)) (map (λ p. meaning p) probes.items)) }
 {
     match guard {
@@ -49,7 +50,7 @@ fn play_under<L: Lifeguard>(
 ) -> Result<Played, NoMemory>
     requires valid { HasValidParts log.now }
     requires fresh { All (λ p. has_seen p []) probes.items }
-    ensures result { IfOk result (λ played. IsResult (L.rules guard) log.now played.answer.text.items played.answer.reported) }
+    ensures result { IfOk result (λ played. IsResult (L.rules guard) log.now played.answer.text.items played.answer.verdict) }
     ensures lines { IfOk result (λ played. map (λ line. line.items) played.lines.items ≡ map (line_over (events_of log.now.lines)) (map (λ p. meaning p) probes.items)) }
 {
     let replayed = replay(alloc, log, guard, probes)?;

@@ -1,45 +1,56 @@
-ghost use Rattle.std.specs.Prelude.{◌≡◌, ◌<◌, ◌≤◌, ◌+◌, ◌^◌, ◌++◌, [], List, ℕ, Ok, true, false, All, IfOk, IfErr, OnOk, IsErrOf};
+//! `replay`: the plain rules over all events of a log.
+ghost use Rattle.std.specs.Prelude.{◌≡◌, ◌<◌, ◌≤◌, ◌+◌, ◌^◌, ◌++◌, [], List, ℕ, Ok, true, false, All, IfOk, IfErr, OnOk};
 ghost use Rattle.std.specs.declared.option.Option.{Option};
 ghost use Rattle.std.specs.List.{cons_option};
 ghost use Rattle.pl_base.specs.declared.layout.TheConstants.{PAGE_COUNT, MAX_RECORDS};
-ghost use Rattle.pl_base.specs.Causes.{Rose};
 ghost use Rattle.pl_event.specs.declared.event.Event.{Event};
 ghost use Rattle.pl_event.specs.declared.log.PageRun.{PageRun};
 ghost use Rattle.pl_event.specs.Numbers.{event_of};
 ghost use Rattle.log_text.specs.Parts.{IsValidRecord};
-ghost use Rattle.log_text.specs.Streaming.{IsStreamed, WasRead, IsEnd, begun_log, bytes_ahead};
+ghost use Rattle.log_text.specs.Streaming.{IsStreamed, KeepsFaults, WasRead, IsEnd, begun_log, bytes_ahead};
 ghost use Rattle.lifeguard.specs.Shadow.{Represents, place_of};
+ghost use Rattle.paralog_top.specs.declared.command.Command.TheVariants as commands;
+ghost use Rattle.paralog_top.specs.Asked.{told};
 ghost use Rattle.paralog_top.specs.Defined.{IsReplay, IsReplayUnder};
+ghost use Rattle.paralog_top.specs.Refusals.{IsRefusal, Reads};
 ghost use Rattle.paralog_top.specs.Playing.{IsPlaying, IsPlayingSome, WasPlayed};
 
 use crate::answer::Answer;
+use crate::refusal::Refusal;
 use crate::result::result_of;
 use addrcheck::AddrCheck;
 use lifeguard::{Lifeguard, Name, PlainMonitor};
 use log_text::{LogEnd, LogStream, Opening};
 use memcheck::MemCheck;
-use pl_base::{NoMemory, ReadEnd, Source};
+use pl_base::layout::MAX_LOG_BYTES;
+use pl_base::{NoMemory, Source};
 use pl_event::Record;
 use std::alloc::Global;
 use taintcheck::TaintCheck;
 
-/// The replay of the log that the source has, in at most `limit` bytes, under the named lifeguard, with no probe. Each
-/// event is played as its line is read, and neither lines nor bytes are kept.
-pub fn replay<S: Source>(
-    alloc: Global,
-    guard: Name,
-    source: &mut S,
-    limit: u32,
-) -> Result<Answer, LogEnd>
-    requires { limit < 2 ^ 31 }
-    ensures ok { IfOk result (λ answer. WasRead limit (S.left source.old) (S.left source.new) (λ bytes. IsReplay guard bytes answer.text.items answer.reported)) }
-    ensures end { IfErr result (IsEnd limit (S.left source.old) (S.left source.new)) }
-    ensures fault { IsErrOf result (LogEnd.Read ReadEnd.Fault) → Rose (S.faults source.old) (S.faults source.new) }
+/// The replay of the log that the source has, under the named lifeguard. Each event is played as its line is read, and
+/// neither lines nor bytes are kept.
+pub fn replay<S: Source>(alloc: Global, guard: Name, source: &mut S) -> Result<Answer, Refusal>
+    ensures ok { let input = told (S.left source.old) (S.left source.new) (S.faults source.old) (S.faults source.new) in
+        IfOk result (λ answer. Reads MAX_LOG_BYTES input (λ bytes. IsReplay guard bytes answer.text.items answer.verdict)) }
+    ensures err { let input = told (S.left source.old) (S.left source.new) (S.faults source.old) (S.faults source.new) in
+        IfErr result (IsRefusal (commands.Replay guard) input) }
+{
+    match replay_named(alloc, guard, source) {
+        Ok(answer) => Ok(answer),
+        Err(end) => Err(Refusal::of_log(end)),
+    }
+}
+
+fn replay_named<S: Source>(alloc: Global, guard: Name, source: &mut S) -> Result<Answer, LogEnd>
+    ensures ok { IfOk result (λ answer. WasRead MAX_LOG_BYTES (S.left source.old) (S.left source.new) (λ bytes. IsReplay guard bytes answer.text.items answer.verdict)) }
+    ensures end { IfErr result (IsEnd MAX_LOG_BYTES (S.left source.old) (S.left source.new)) }
+    ensures faults { KeepsFaults (S.faults source.old) (S.faults source.new) result }
 {
     match guard {
-        Name::Addr => replay_under(alloc, AddrCheck, source, limit),
-        Name::Taint => replay_under(alloc, TaintCheck, source, limit),
-        Name::Mem => replay_under(alloc, MemCheck, source, limit),
+        Name::Addr => replay_under(alloc, AddrCheck, source, MAX_LOG_BYTES),
+        Name::Taint => replay_under(alloc, TaintCheck, source, MAX_LOG_BYTES),
+        Name::Mem => replay_under(alloc, MemCheck, source, MAX_LOG_BYTES),
     }
 }
 
@@ -50,9 +61,9 @@ fn replay_under<L: Lifeguard, S: Source>(
     limit: u32,
 ) -> Result<Answer, LogEnd>
     requires { limit < 2 ^ 31 }
-    ensures ok { IfOk result (λ answer. WasRead limit (S.left source.old) (S.left source.new) (λ bytes. IsReplayUnder (L.rules guard) bytes answer.text.items answer.reported)) }
+    ensures ok { IfOk result (λ answer. WasRead limit (S.left source.old) (S.left source.new) (λ bytes. IsReplayUnder (L.rules guard) bytes answer.text.items answer.verdict)) }
     ensures end { IfErr result (IsEnd limit (S.left source.old) (S.left source.new)) }
-    ensures fault { IsErrOf result (LogEnd.Read ReadEnd.Fault) → Rose (S.faults source.old) (S.faults source.new) }
+    ensures faults { KeepsFaults (S.faults source.old) (S.faults source.new) result }
 {
     match LogStream::open(alloc, source, limit) {
         Ok(opening) => replay_opened(alloc, guard, opening, source),
@@ -71,10 +82,9 @@ fn replay_opened<L: Lifeguard, S: Source>(
     requires pages { All (λ run. run.first + run.count ≤ PAGE_COUNT) opening.pages }
     requires read { (limit : ℕ) × (began : Option (List ℕ)) × IsStreamed limit began (S.left source.old) opening.stream (begun_log opening) }
     ensures ok { (limit : ℕ) (began : Option (List ℕ)) → IsStreamed limit began (S.left source.old) opening.stream (begun_log opening)
-        → IfOk result (λ answer. WasRead limit began (S.left source.new) (λ bytes. IsReplayUnder (L.rules guard) bytes answer.text.items answer.reported)) }
+        → IfOk result (λ answer. WasRead limit began (S.left source.new) (λ bytes. IsReplayUnder (L.rules guard) bytes answer.text.items answer.verdict)) }
     ensures end { (limit : ℕ) (began : Option (List ℕ)) → IsStreamed limit began (S.left source.old) opening.stream (begun_log opening) → IfErr result (IsEnd limit began (S.left source.new)) }
-    ensures fault { IsErrOf result (LogEnd.Read ReadEnd.Fault) → Rose (S.faults source.old) (S.faults source.new) }
-    ensures later { S.faults source.old ≤ S.faults source.new }
+    ensures faults { KeepsFaults (S.faults source.old) (S.faults source.new) result }
 {
     let Opening {
         harts,
@@ -89,7 +99,7 @@ fn replay_opened<L: Lifeguard, S: Source>(
     }
 }
 
-/// Plays the events of all records behind the pages.
+/// Plays the events of all records after the pages.
 fn play_rows<L: Lifeguard, S: Source>(
     monitor: &mut PlainMonitor<L>,
     stream: &mut LogStream,
@@ -101,8 +111,7 @@ fn play_rows<L: Lifeguard, S: Source>(
     ensures end { (limit : ℕ) (began : Option (List ℕ)) → IsPlaying (L.rules monitor.old.guard) monitor.old.harts limit began (S.left source.old) stream.old monitor.old.shadow → IfErr result (IsEnd limit began (S.left source.new)) }
     ensures guard { monitor.new.guard ≡ monitor.old.guard }
     ensures harts { monitor.new.harts ≡ monitor.old.harts }
-    ensures fault { IsErrOf result (LogEnd.Read ReadEnd.Fault) → Rose (S.faults source.old) (S.faults source.new) }
-    ensures later { S.faults source.old ≤ S.faults source.new }
+    ensures faults { KeepsFaults (S.faults source.old) (S.faults source.new) result }
 {
     let mut reading = true;
     'rows: while reading {
@@ -130,8 +139,7 @@ fn play_row<L: Lifeguard, S: Source>(
     ensures further { result ≡ Ok true → bytes_ahead stream.new.buffer < bytes_ahead stream.old.buffer }
     ensures guard { monitor.new.guard ≡ monitor.old.guard }
     ensures harts { monitor.new.harts ≡ monitor.old.harts }
-    ensures fault { IsErrOf result (LogEnd.Read ReadEnd.Fault) → Rose (S.faults source.old) (S.faults source.new) }
-    ensures later { S.faults source.old ≤ S.faults source.new }
+    ensures faults { KeepsFaults (S.faults source.old) (S.faults source.new) result }
 {
     match stream.next(source) {
         Ok(Some(row)) => {

@@ -1,23 +1,35 @@
+//! The plain result of a log, as an answer.
 ghost use Rattle.std.specs.Prelude.{◌≡◌, ◌<◌, ◌≤◌, IfOk};
 ghost use Rattle.pl_event.specs.declared.log.Log.{Log};
 ghost use Rattle.pl_event.specs.Numbers.{events_of};
 ghost use Rattle.lifeguard.specs.Shadow.{Represents, state_of};
-ghost use Rattle.paralog_top.specs.Defined.{IsResult, mask_row, mask_rows};
+ghost use Rattle.paralog_top.specs.Defined.{IsResult, mask_row, mask_rows, verdict_of as verdict_by};
 
-use crate::answer::Answer;
+use crate::answer::{Answer, Verdict};
 use lifeguard::{Lifeguard, PlainMonitor};
 use pl_base::NoMemory;
 use report_text::{runs_of_plain, text};
 use std::alloc::Global;
 
-/// The plain result of any log that the monitor stands for, as a text.
+/// What a lifeguard's result says, by whether it has no report.
+fn verdict_of(clean: bool) -> Verdict
+    ensures { result ≡ verdict_by clean }
+{
+    if clean {
+        Verdict::Clean
+    } else {
+        Verdict::Reports
+    }
+}
+
+/// The plain result of any log that the monitor represents, as a text.
 pub fn result_of<L: Lifeguard>(
     alloc: Global,
     guard: L,
     monitor: &PlainMonitor<L>,
 ) -> Result<Answer, NoMemory>
     ensures { (log : Log) → log.harts ≡ monitor.now.harts → Represents (L.rules guard) log.pages (events_of log.lines) monitor.now.shadow
-        → IfOk result (λ answer. IsResult (L.rules guard) log answer.text.items answer.reported) }
+        → IfOk result (λ answer. IsResult (L.rules guard) log answer.text.items answer.verdict) }
 {
     let masks = mask_table(alloc, monitor)?;
     let runs = runs_of_plain(alloc, monitor)?;
@@ -29,8 +41,8 @@ pub fn result_of<L: Lifeguard>(
         &masks,
         &runs,
     )?;
-    let reported = !monitor.reports().is_empty();
-    Ok(Answer { text, reported })
+    let verdict = verdict_of(monitor.reports().is_empty());
+    Ok(Answer { text, verdict })
 }
 
 /// The masks of the registers of each hart.

@@ -1,20 +1,44 @@
-ghost use Rattle.std.specs.Prelude.{◌≡◌, ◌≤◌, ◌<◌, ◌^◌, suc, Ok, true, false, length, IfOk, OnOk};
+//! `run`: a job run to its end.
+ghost use Rattle.std.specs.Prelude.{◌≡◌, ◌≤◌, ◌<◌, ◌^◌, suc, Ok, true, false, length, IfOk, IfErr, OnOk};
 ghost use Rattle.core_sim.specs.Valid.{IsValidJob};
 ghost use Rattle.guest_asm.specs.Jobs.{HasFault, IfFault};
+ghost use Rattle.paralog_top.specs.declared.command.Command.TheVariants as commands;
+ghost use Rattle.paralog_top.specs.Asked.{told};
+ghost use Rattle.paralog_top.specs.Refusals.{IsRefusal, Reads};
 ghost use Rattle.paralog_top.specs.Runs.{IsJobTold, IsRunTold, IsRunning, IsRunEnded, ends_of};
 
+use crate::answer::{Answer, Verdict};
+use crate::input::read_input;
+use crate::refusal::Refusal;
 use crate::run_text::text;
 use core_sim::{HartEnd, Job, Machine, StepOut};
 use guest_asm::{JobRefused, read_job};
-use pl_base::NoMemory;
+use pl_base::layout::MAX_JOB_BYTES;
+use pl_base::{NoMemory, Source};
 use std::alloc::Global;
 
+/// The text of the run of the job that the source has.
+pub fn run<S: Source>(alloc: Global, source: &mut S) -> Result<Answer, Refusal>
+    ensures ok { let input = told (S.left source.old) (S.left source.new) (S.faults source.old) (S.faults source.new) in
+        IfOk result (λ answer. Reads MAX_JOB_BYTES input (λ bytes. IsRunTold bytes answer.text.items × (answer.verdict ≡ Verdict.Clean))) }
+    ensures err { let input = told (S.left source.old) (S.left source.new) (S.faults source.old) (S.faults source.new) in
+        IfErr result (IsRefusal commands.Run input) }
+{
+    let bytes = match read_input(alloc, source, MAX_JOB_BYTES) {
+        Ok(bytes) => bytes,
+        Err(refusal) => return Err(refusal),
+    };
+    match run_told(alloc, &bytes) {
+        Ok(text) => Ok(Answer {
+            text,
+            verdict: Verdict::Clean,
+        }),
+        Err(refused) => Err(Refusal::of_job(refused)),
+    }
+}
+
 /// The text of the run of the job that the bytes spell.
-///
-/// # Errors
-///
-/// `Fault` where the bytes are no job: the first line with a fault, and its cause; and `NoMemory`.
-pub fn run(alloc: Global, bytes: &[u8]) -> Result<Vec<u8>, JobRefused>
+fn run_told(alloc: Global, bytes: &[u8]) -> Result<Vec<u8>, JobRefused>
     requires { length bytes.now < 2 ^ 31 }
     ensures ok { IfOk result (λ text. IsRunTold bytes.now text.items) }
     ensures fault { IfFault result (HasFault bytes.now) }
@@ -66,7 +90,7 @@ fn step_once(machine: &mut Machine, job: &Job) -> Result<bool, NoMemory>
     }
 }
 
-/// The text of a run that has ended. As many harts stand in the machine as there are entries at which they began.
+/// The text of a run that has ended. The machine has as many harts as there are entries at which they began.
 fn tell(alloc: Global, machine: &Machine, job: &Job) -> Result<Vec<u8>, NoMemory>
     requires { IsRunEnded job.now machine.now }
     ensures { IfOk result (λ text. IsJobTold job.now text.items) }

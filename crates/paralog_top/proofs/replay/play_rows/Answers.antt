@@ -28,7 +28,7 @@ rows-preserved g c =
       over = λ done limit began playing.
           let there = plays_as rules first.guard monitor.guard first.harts monitor.harts limit began before c.rows.stream monitor.shadow (sym c.rows.invariant.guard) (sym c.rows.invariant.harts) (c.rows.invariant.going c.rows-test.true limit began playing) in
           played_as rules monitor.guard first.guard monitor.harts first.harts limit began now c.play_row.new.monitor.shadow c.rows.invariant.guard c.rows.invariant.harts (c.in-Ok.ensures.over limit began there (ap Ok done));
-      later = omega (arith, c.in-Ok.ensures.later, c.rows.invariant.later);
+      calm = c.in-Ok.ensures.faults ∙ c.rows.invariant.calm;
     }
 
 pub returns-in-Err-clause-end : goal.returns-in-Err-clause-end

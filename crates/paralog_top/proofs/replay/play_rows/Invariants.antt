@@ -1,4 +1,4 @@
-use Rattle.std.proofs.Common.{◌≡◌, ◌≤◌, ℕ, suc, List, true, false, cond}
+use Rattle.std.proofs.Common.{◌≡◌, ℕ, suc, List, true, false, cond}
 use Rattle.std.specs.declared.option.Option.{Option}
 use Rattle.log_text.specs.Streaming.{bytes_ahead}
 use Rattle.paralog_top.specs.Playing.{IsPlaying, IsPlayingSome, WasPlayed}
@@ -15,7 +15,7 @@ invariant-rows g l =
       some : l.reading ≡ true → IsPlayingSome rules l.initial.monitor.harts now l.stream l.monitor.shadow;
       going : l.reading ≡ true → (limit : ℕ) (first : Option (List ℕ)) → IsPlaying rules l.initial.monitor.harts limit first began l.initial.stream l.initial.monitor.shadow → IsPlaying rules l.initial.monitor.harts limit first now l.stream l.monitor.shadow;
       over : l.reading ≡ false → (limit : ℕ) (first : Option (List ℕ)) → IsPlaying rules l.initial.monitor.harts limit first began l.initial.stream l.initial.monitor.shadow → WasPlayed rules l.initial.monitor.harts limit first now l.monitor.shadow;
-      later : g.S.Source.faults l.initial.source ≤ g.S.Source.faults l.source;
+      calm : g.S.Source.faults l.source ≡ g.S.Source.faults l.initial.source;
     }
 
 abbrev pub decreases-rows : goal.decreases-rows

@@ -27,7 +27,7 @@ returns-in-Ok-clause-ok g c = λ limit began streamed.
     let playing = begins_playing g.L.Lifeguard.rules c.args.guard monitor.guard limit began (g.S.Source.left c.args.source.now) c.args.opening monitor.harts monitor.shadow c.as_slice.result.now c.in_ok-monitor.ensures.guard c.in_ok-monitor.ensures.harts
     c.as_slice.ensures c.in_ok-monitor.ensures.stands streamed in
     is_replayed g.L.Lifeguard.rules c.args.guard monitor.guard limit began (g.S.Source.left c.play_rows.new.source) monitor.harts c.play_rows.new.monitor.harts c.play_rows.new.monitor.shadow c.in_ok-result_of-in-Ok.field-0.text.items
-    c.in_ok-result_of-in-Ok.field-0.reported c.in_ok-monitor.ensures.guard c.in-Ok.ensures.harts (c.in-Ok.ensures.ok limit began playing) c.in_ok-result_of-in-Ok.ensures
+    c.in_ok-result_of-in-Ok.field-0.verdict c.in_ok-monitor.ensures.guard c.in-Ok.ensures.harts (c.in-Ok.ensures.ok limit began playing) c.in_ok-result_of-in-Ok.ensures
 
 pub returns-clause-end : goal.returns-clause-end
 returns-clause-end g c = λ limit began streamed.

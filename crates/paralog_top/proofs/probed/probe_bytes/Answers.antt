@@ -4,7 +4,7 @@ use Rattle.pl_event.specs.Numbers.{events_of}
 use Rattle.replay_probes.specs.Meaning.{line_over}
 use Rattle.paralog_top.specs.Commands.{place_named}
 use Rattle.paralog_top.specs.Defined.{line_at}
-use Rattle.paralog_top.proofs.probed.probe.Goals as goal
+use Rattle.paralog_top.proofs.probed.probe_bytes.Goals as goal
 
 pub returns-clause-ok : goal.returns-clause-ok
 returns-clause-ok g c =

@@ -1,0 +1,65 @@
+//! `check`: whether each two conflicting records of a log are ordered.
+ghost use Rattle.std.specs.Prelude.{◌≡◌, ◌<◌, ◌^◌, length, IfOk, IfErr};
+ghost use Rattle.pl_event.specs.Runs.{IsRunLog};
+ghost use Rattle.paralog_top.specs.declared.command.Command.TheVariants as commands;
+ghost use Rattle.paralog_top.specs.Asked.{told};
+ghost use Rattle.paralog_top.specs.Defined.{HasOrder, IsChecked, order_line};
+ghost use Rattle.paralog_top.specs.Refusals.{IsRefusal, Reads};
+
+use crate::answer::{Answer, Verdict};
+use crate::refusal::Refusal;
+use log_check::CheckRefused;
+use log_text::{log_laws, read_source};
+use pl_base::layout::MAX_LOG_BYTES;
+use pl_base::{NoMemory, Source};
+use pl_event::{Log, Point};
+use std::alloc::{AllocError, Global};
+
+/// The order of the log that the source has: a line that says that it is ordered, or names the first pair that is not.
+pub fn check<S: Source>(alloc: Global, source: &mut S) -> Result<Answer, Refusal>
+    ensures ok { let input = told (S.left source.old) (S.left source.new) (S.faults source.old) (S.faults source.new) in
+        IfOk result (λ answer. Reads MAX_LOG_BYTES input (λ bytes. IsChecked bytes answer.text.items answer.verdict)) }
+    ensures err { let input = told (S.left source.old) (S.left source.new) (S.faults source.old) (S.faults source.new) in
+        IfErr result (IsRefusal commands.Check input) }
+{
+    match read_source(alloc, source, MAX_LOG_BYTES) {
+        Ok(log) => {
+            log_laws();
+            match order_of(alloc, log) {
+                Ok(answer) => Ok(answer),
+                Err(NoMemory) => Err(Refusal::NoMemory),
+            }
+        }
+        Err(end) => Err(Refusal::of_log(end)),
+    }
+}
+
+/// The order of a log, as an answer.
+fn order_of(alloc: Global, log: Log) -> Result<Answer, NoMemory>
+    requires log { IsRunLog log }
+    requires few { length log.lines < 2 ^ 32 }
+    ensures order { IfOk result (λ answer. HasOrder log answer.verdict) }
+    ensures text { IfOk result (λ answer. answer.text.items ≡ order_line answer.verdict) }
+{
+    match log_check::check(alloc, log) {
+        Ok(_) => Ok(Answer {
+            text: b"ordered\n".to_vec(alloc)?,
+            verdict: Verdict::Clean,
+        }),
+        Err(CheckRefused::Unordered { earlier, later, .. }) => Ok(Answer {
+            text: unordered_line(alloc, earlier, later)?,
+            verdict: Verdict::Unordered { earlier, later },
+        }),
+        Err(CheckRefused::NoMemory { .. }) => Err(NoMemory),
+    }
+}
+
+fn unordered_line(alloc: Global, earlier: Point, later: Point) -> Result<Vec<u8>, AllocError>
+    ensures { IfOk result (λ line. line.items ≡ order_line (Verdict.Unordered earlier later)) }
+{
+    let (u, n) = (earlier.hart, earlier.number);
+    let (v, m) = (later.hart, later.number);
+    let mut line = String::new(alloc);
+    write!(line, "unordered {u}:{n} {v}:{m}\n")?;
+    Ok(line.into_bytes())
+}

@@ -1,7 +1,7 @@
-//! Whole commands, tested by rows of data: plays each row of each file `*.rows` of the folder that it runs in, and tells
-//! the rows that come to something else than they say.
+//! Whole commands, tested by rows of data: plays each row of each file `*.rows` of the folder that it runs in, and
+//! tells the rows that come to something else than they say.
 //!
-//! A file has blocks of lines that are parted by empty lines; a line that begins with `#` is a comment. A block is a row:
+//! A file has blocks of lines, parted by empty lines; a line that begins with `#` is a comment. A block is a row:
 //!
 //! ```text
 //! row a byte past a block is reported
@@ -31,7 +31,7 @@
 //! | `use NAME` | the input goes on with the text of this name |
 //! | `left 24` | so many bytes of the input are not read; none where there is no such line |
 //! | `source pieces 4 fails 2 5` | a read gives at most 4 bytes; the second and the fifth read fail |
-//! | `sink room 100 pieces 10 fails 2` | the output has room for 100 bytes, a write takes at most 10, the second fails |
+//! | `sink room 100 pieces 10 fails 2` | room for 100 bytes of output, a write takes at most 10, the second fails |
 //! | `notes room 100 pieces 10 fails 2` | the same of the note |
 //!
 //! A block that begins with `text NAME` names the text of its other lines, which begin with `>`, for the rows after it.

@@ -8,7 +8,8 @@ pub struct Tally {
 }
 
 impl Tally {
-    ghost use Rattle.std.specs.Prelude.{◌≡◌, ◌+◌, ◌-◌, ◌^◌, if◌then◌else◌, min};
+    ghost use Rattle.std.specs.Prelude.{◌≡◌, if◌then◌else◌};
+    ghost use Rattle.cases.specs.Tally.{one_more};
 
     /// No row yet.
     pub fn new() -> Tally
@@ -19,8 +20,8 @@ impl Tally {
 
     /// One more row, which came to what it says or not.
     pub fn count(&mut self, as_said: bool)
-        ensures rows { self.new.rows ≡ min (self.old.rows + 1) (2 ^ 32 - 1) }
-        ensures differ { self.new.differ ≡ (if as_said then self.old.differ else min (self.old.differ + 1) (2 ^ 32 - 1)) }
+        ensures rows { self.new.rows ≡ one_more self.old.rows }
+        ensures differ { self.new.differ ≡ (if as_said then self.old.differ else one_more self.old.differ) }
     {
         self.rows = self.rows.saturating_add(1);
         if !as_said {

@@ -1,5 +1,7 @@
 //! Texts that are written in lines of rows, and those that have names.
 
+ghost use Rattle.std.specs.Prelude.{◌≡◌, OnOk, take, vec_len};
+
 use crate::row::RowLine;
 use anyhow::{Context, Result, ensure};
 use std::alloc::Global;
@@ -12,7 +14,9 @@ pub fn number(text: &str) -> Result<u32> {
 }
 
 /// Appends bytes that are written as two hex digits each, with blanks between some.
-fn append_hex(alloc: Global, into: &mut Vec<u8>, text: &str) -> Result<()> {
+fn append_hex(alloc: Global, into: &mut Vec<u8>, text: &str) -> Result<()>
+    ensures { OnOk result (take (vec_len into.old) into.new.items ≡ into.old.items) }
+{
     for digits in text.split(' ') {
         let bytes = hex::decode(alloc, digits).context(format_args!("no hex digits: {digits}"))?;
         into.extend_from_slice(&bytes)?;
@@ -21,7 +25,9 @@ fn append_hex(alloc: Global, into: &mut Vec<u8>, text: &str) -> Result<()> {
 }
 
 /// Appends what a line says after its mark: how often, with a line feed or without, or as hex digits, and a text.
-pub fn append(alloc: Global, into: &mut Vec<u8>, said: &str) -> Result<()> {
+pub fn append(alloc: Global, into: &mut Vec<u8>, said: &str) -> Result<()>
+    ensures { OnOk result (take (vec_len into.old) into.new.items ≡ into.old.items) }
+{
     let (how, text) = said.split_once(' ').unwrap_or((said, ""));
     if how == "x" {
         return append_hex(alloc, into, text);

@@ -18,7 +18,7 @@ use Rattle.log_text.specs.declared.page_set.PageSet.{PageSet}
 use Rattle.log_text.specs.declared.tally.Tally.{Tally}
 use Rattle.log_text.specs.Pages.{holds_at}
 use Rattle.pl_base.specs.Pages.{marked}
-use Rattle.log_text.specs.Spelling.{Entry, page, row}
+use Rattle.log_grammar.specs.Spelling.{Entry, page, row}
 use Rattle.log_text.specs.Tally.{Keeps, AddsKind, MapsInside, tells, is_told}
 use Rattle.log_text.specs.WellFormed.{is_row, is_row_of, records_in, end_after, mapped_after, is_end_of, is_notice_of, is_waiting, is_bad_map, breaks_records, breaks, broken, rules_in_order}
 use Rattle.pl_event.specs.Mapping.{mapped_by}

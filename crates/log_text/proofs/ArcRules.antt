@@ -6,13 +6,13 @@ use Rattle.std.proofs.lemmas.Bool.{or_parts, leb-false}
 use Rattle.pl_event.specs.Numbers.{hart_of}
 use Rattle.pl_event.specs.declared.log.Point.{Point}
 use Rattle.pl_event.specs.declared.log.Record.{Record}
-use Rattle.log_text.specs.Arcs.{arcs_in, Sums, is_rising, highest_hart}
-use Rattle.log_text.specs.Spelling.{Entry, points_from}
+use Rattle.log_grammar.specs.Arcs.{arcs_in, Sums, is_rising, highest_hart}
+use Rattle.log_grammar.specs.Spelling.{Entry, points_from}
 use Rattle.log_text.specs.Tally.{Keeps}
 use Rattle.log_text.specs.WellFormed.{records_in, names_past, breaks_hart, breaks_arc}
-use Rattle.log_text.specs.declared.points.ArcList.{ArcList}
+use Rattle.log_grammar.specs.declared.points.ArcList.{ArcList}
 use Rattle.log_text.specs.declared.tally.Tally.{Tally}
-use Rattle.log_text.proofs.ArcLemmas.{any_past}
+use Rattle.log_grammar.proofs.ArcLemmas.{any_past}
 use Rattle.log_text.proofs.RuleLemmas.{list_any-or, list_any_same}
 
 -- where the harts rise, the arcs that are kept are those of the line

@@ -13,8 +13,8 @@ use Rattle.pl_event.specs.declared.log.Record.{Record}
 use Rattle.pl_event.specs.declared.log.Record.TheVariants as entry
 use Rattle.pl_event.proofs.Places.{line_number_of, line_number_next}
 use Rattle.log_text.specs.declared.cause.LogCause.TheVariants.{Page}
-use Rattle.log_text.specs.Form.{IsPointInForm, most_written}
-use Rattle.log_text.specs.Spelling.{Entry, row, row_of, points_from}
+use Rattle.log_grammar.specs.Form.{IsPointInForm, most_written}
+use Rattle.log_grammar.specs.Spelling.{Entry, row, row_of, points_from}
 use Rattle.log_text.specs.WellFormed.{IsWritable, Continues, breaks, breaks_hart, breaks_arc, breaks_notice, names_past, is_bad_notice, is_waiting, is_pending, is_row_of, records_in, rules_of_any_length}
 use Rattle.log_text.proofs.ArcPoints.{arc_holds, none_passes}
 use Rattle.log_text.proofs.LinesBefore.{front_of, parted, records_at, fails_before}

@@ -2,9 +2,9 @@
 use Rattle.std.proofs.Common.{◌≡◌, ℕ, ◌-◌, List, [], ◌∷◌, ◌++◌, length, drop, sym, ap, ◌∙◌, arith}
 use Rattle.std.proofs.Math.Seq.{drop-append_seam}
 use Rattle.std.proofs.lemmas.List.{append_assoc, append-nil, length-append}
-use Rattle.log_text.specs.Begins.{Begins, BeginsWithNoRow, BeginsWithNoPage, BeginsWithHeader, BeginsWithNoHeader}
+use Rattle.log_grammar.specs.Begins.{Begins, BeginsWithNoRow, BeginsWithNoPage, BeginsWithHeader, BeginsWithNoHeader}
 use Rattle.log_text.specs.Reading.{HoldsLine, whole_lines, last_bytes}
-use Rattle.log_text.specs.Spelling.{Entry, page, row, header_text, line_text, entry_text}
+use Rattle.log_grammar.specs.Spelling.{Entry, page, row, header_text, line_text, entry_text}
 use Rattle.log_text.proofs.WholeLines.{IsOneLine, one_entry, one_header, same_line, line_within}
 
 -- a line and its line feed before a rest

@@ -1,16 +1,9 @@
-mod ArcReading
-mod Chain
-mod KindFields
-mod LineTexts
-mod PointLemmas
 mod ReadLemmas
 mod ReaderLemmas
 mod RowLaws
 mod Same
 mod TextLength
-mod Widths
 pub mod AddedLines
-pub mod ArcLemmas
 pub mod ArcRules
 pub mod ArcPoints
 pub mod Flow

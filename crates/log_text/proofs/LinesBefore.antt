@@ -15,7 +15,7 @@ use Rattle.pl_event.specs.declared.log.Line.{Line}
 use Rattle.pl_event.specs.declared.log.Log.{Log}
 use Rattle.pl_event.specs.declared.log.PageRun.{PageRun}
 use Rattle.pl_event.proofs.Before.{drop_here}
-use Rattle.log_text.specs.Spelling.{Entry, page, row_of, entries_of}
+use Rattle.log_grammar.specs.Spelling.{Entry, page, row_of, entries_of}
 use Rattle.log_text.specs.WellFormed.{is_row, is_row_of, records_in}
 
 -- Lines by position

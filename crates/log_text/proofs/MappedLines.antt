@@ -12,7 +12,7 @@ use Rattle.pl_event.specs.declared.log.Record.{Record}
 use Rattle.pl_event.specs.declared.log.Record.TheVariants as entry
 use Rattle.pl_base.specs.Pages.{is_among, marked, count_below}
 use Rattle.log_text.specs.Pages.{some_page}
-use Rattle.log_text.specs.Spelling.{Entry, page, row, row_of, points_from}
+use Rattle.log_grammar.specs.Spelling.{Entry, page, row, row_of, points_from}
 use Rattle.log_text.specs.WellFormed.{mapped_after, mapped_in, pages_mapped, page_end, end_after}
 use Rattle.pl_base.proofs.Pages.{marked-past, count_run}
 use Rattle.pl_base.specs.Pages.{EachPage}

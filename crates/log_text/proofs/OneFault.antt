@@ -6,10 +6,10 @@ use Rattle.pl_event.specs.declared.log.Log.{Log}
 use Rattle.log_text.specs.declared.cause.LogCause.{LogCause}
 use Rattle.log_text.specs.declared.cause.LogCause.TheVariants as cause
 use Rattle.log_text.specs.declared.cause.LogFault.{LogFault}
-use Rattle.log_text.specs.Begins.{Begins, BeginsWithHeader, BeginsWithNoRow, BeginsWithNoPage}
-use Rattle.log_text.specs.Form.{IsInForm, most_read}
+use Rattle.log_grammar.specs.Begins.{Begins, BeginsWithHeader, BeginsWithNoRow, BeginsWithNoPage}
+use Rattle.log_grammar.specs.Form.{IsInForm, most_read}
 use Rattle.log_text.specs.Reading.{IsAlike}
-use Rattle.log_text.specs.Spelling.{Entry, page, row, header_text, line_text, entry_text, entries_text, entries_of}
+use Rattle.log_grammar.specs.Spelling.{Entry, page, row, header_text, line_text, entry_text, entries_text, entries_of}
 use Rattle.log_text.specs.WellFormed.{broken, has_pending, IsLawful, rules_in_order, IsWellFormed, IsLogText, IsFirstFault, Stops, no_line, bad_line, bad_end}
 use Rattle.log_text.proofs.ReadLemmas.{ContinuesRead, IsLawfulRead, text_some, alike-push}
 

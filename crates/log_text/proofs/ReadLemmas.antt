@@ -10,10 +10,10 @@ use Rattle.pl_event.specs.declared.log.PageRun.{PageRun}
 use Rattle.log_text.specs.declared.cause.LogCause.{LogCause}
 use Rattle.log_text.specs.declared.cause.LogCause.TheVariants as cause
 use Rattle.log_text.specs.declared.cause.LogFault.{LogFault}
-use Rattle.log_text.specs.Begins.{Begins, BeginsWithHeader, BeginsWithNoRow, BeginsWithNoPage}
-use Rattle.log_text.specs.Form.{IsInForm, most_read}
+use Rattle.log_grammar.specs.Begins.{Begins, BeginsWithHeader, BeginsWithNoRow, BeginsWithNoPage}
+use Rattle.log_grammar.specs.Form.{IsInForm, most_read}
 use Rattle.log_text.specs.Reading.{IsAlike, IsRead, IsNoLog, IsOnly, with_line, with_pages}
-use Rattle.log_text.specs.Spelling.{Entry, page, row, row_of, header_text, line_text, entry_text, entries_text, entries_of}
+use Rattle.log_grammar.specs.Spelling.{Entry, page, row, row_of, header_text, line_text, entry_text, entries_text, entries_of}
 use Rattle.log_text.specs.WellFormed.{broken, Continues, IsLawful, IsWellFormed, IsLogText, IsLineFault, Stops, no_line, bad_line, bad_end, has_pending, rules_in_order}
 use Rattle.log_text.proofs.Same.{IsWhole, log-same}
 

@@ -14,14 +14,14 @@ use Rattle.log_text.specs.declared.cause.LogCause.{LogCause}
 use Rattle.log_text.specs.declared.cause.LogCause.TheVariants as cause
 use Rattle.log_text.specs.declared.cause.LogRefused.{LogRefused}
 use Rattle.log_text.specs.declared.cause.LogRefused.TheVariants as refused
-use Rattle.log_text.specs.declared.points.ArcList.{ArcList}
+use Rattle.log_grammar.specs.declared.points.ArcList.{ArcList}
 use Rattle.log_text.specs.declared.reader.LogReader.{LogReader}
 use Rattle.log_text.specs.declared.reader.Row.{Row}
 use Rattle.log_text.specs.declared.tally.Tally.{Tally}
-use Rattle.log_text.specs.Arcs.{ShowsPoints}
-use Rattle.log_text.specs.Begins.{Begins, BeginsWithRow, BeginsWithNoRow, BeginsWithNoPage, BeginsWithHeader, BeginsWithNoHeader}
+use Rattle.log_grammar.specs.Arcs.{ShowsPoints}
+use Rattle.log_grammar.specs.Begins.{Begins, BeginsWithRow, BeginsWithNoRow, BeginsWithNoPage, BeginsWithHeader, BeginsWithNoHeader}
 use Rattle.log_text.specs.Reading.{IsReadBy, HasRead, HoldsLine, whole_lines, last_bytes, HoldsNext, ReadsRow, IsOnly, IsNoLog, line_of, with_line, with_pages}
-use Rattle.log_text.specs.Spelling.{Entry, page, row, header_text, line_text, entry_text, entries_text, entries_of}
+use Rattle.log_grammar.specs.Spelling.{Entry, page, row, header_text, line_text, entry_text, entries_text, entries_of}
 use Rattle.log_text.specs.Tally.{Keeps}
 use Rattle.log_text.specs.WellFormed.{broken, has_pending, is_row, IsLogText, IsFirstFault, IfFault}
 use Rattle.log_text.proofs.Fronts.{behind, begins_longer, header_longer, no_row_longer, no_page_longer, no_header_longer}

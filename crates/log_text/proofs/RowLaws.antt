@@ -15,12 +15,12 @@ use Rattle.pl_event.specs.declared.log.Record.TheVariants as entry
 use Rattle.log_text.specs.declared.cause.LogCause.TheVariants.{Page, Records, Hart, Ended, Open, Arc, Notice, Access, Range, Map}
 use Rattle.log_text.specs.declared.cause.LogRefused.{LogRefused}
 use Rattle.std.proofs.lemmas.List.{length-map}
-use Rattle.log_text.specs.declared.points.ArcList.{ArcList}
-use Rattle.log_text.specs.Arcs.{ShowsPoints, arc_of, is_rising, highest_hart}
-use Rattle.log_text.specs.Form.{IsInForm, IsRecordInForm, most_read}
+use Rattle.log_grammar.specs.declared.points.ArcList.{ArcList}
+use Rattle.log_grammar.specs.Arcs.{ShowsPoints, arc_of, is_rising, highest_hart}
+use Rattle.log_grammar.specs.Form.{IsInForm, IsRecordInForm, most_read}
 use Rattle.log_text.specs.Parts.{HasValidParts, IsValidLine, IsValidRecord}
 use Rattle.log_text.specs.Reading.{IsOnly, arcs_of}
-use Rattle.log_text.specs.Spelling.{Entry, page, row, row_of, points_from, entries_of}
+use Rattle.log_grammar.specs.Spelling.{Entry, page, row, row_of, points_from, entries_of}
 use Rattle.log_text.specs.WellFormed.{is_row, breaks, breaks_page, breaks_records, breaks_hart, breaks_ended, breaks_arc, breaks_notice, names_past, is_waiting, broken, is_misaligned, passes_end, is_bad_map, on_event, Continues, IsLawful, IsWellFormed, rules_in_order}
 use Rattle.log_text.proofs.RowRules.{valid_kind}
 

@@ -11,8 +11,8 @@ use Rattle.pl_event.specs.declared.log.PageRun.{PageRun}
 use Rattle.pl_event.specs.declared.log.Point.{Point}
 use Rattle.pl_event.specs.declared.log.Record.{Record}
 use Rattle.log_text.specs.declared.cause.LogCause.TheVariants.{Page}
-use Rattle.log_text.specs.Form.{HasFormFields}
-use Rattle.log_text.specs.Spelling.{Entry, page, row}
+use Rattle.log_grammar.specs.Form.{HasFormFields}
+use Rattle.log_grammar.specs.Spelling.{Entry, page, row}
 use Rattle.log_text.specs.WellFormed.{page_end, pages_mapped, breaks, breaks_page, breaks_records, breaks_hart, breaks_ended, breaks_arc, breaks_notice, is_waiting, is_misaligned, passes_end, is_bad_map, on_event, Continues, rules_in_order, rules_of_any_length}
 use Rattle.log_text.proofs.RuleLemmas.{find-None, fails_at}
 use Rattle.log_text.proofs.MappedLines.{PageSound}

@@ -8,15 +8,9 @@ use Rattle.pl_event.specs.declared.log.PageRun.{PageRun}
 use Rattle.pl_event.specs.declared.log.Point.{Point}
 use Rattle.pl_event.specs.declared.log.Record.{Record}
 use Rattle.pl_event.specs.declared.log.Record.TheVariants as entry
-use Rattle.log_text.specs.Spelling.{Entry, row}
+use Rattle.log_grammar.specs.Spelling.{Entry, row}
 use Rattle.log_text.specs.declared.cause.LogCause.TheVariants.{Page}
 use Rattle.log_text.specs.WellFormed.{is_row, page_end, pages_mapped, breaks_page, breaks_records, breaks_hart, breaks_ended, breaks_arc, breaks_notice, names_past, is_waiting, breaks, broken, on_event, is_bad_map, rules_in_order, rules_of_fields}
-
--- two tests that imply each other give one answer
-pub same_tests : (a b : Bool) → (a ≡ true → b ≡ true) → (b ≡ true → a ≡ true) → a ≡ b
-same_tests true b there back = sym (there refl)
-same_tests false true there back = back refl
-same_tests false false there back = refl
 
 -- an element that passes, and what other tests it passes
 pub list_any_found : {X : Type 0} (p : X → Bool) (xs : List X) → list_any p xs ≡ true → (x : X) × (p x ≡ true) × ((q : X → Bool) → q x ≡ true → list_any q xs ≡ true)

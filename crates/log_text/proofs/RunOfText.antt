@@ -22,9 +22,9 @@ use Rattle.pl_event.proofs.Places.{record_at, before_own, before_other, before_u
 use Rattle.pl_event.proofs.MappedPages.{line_holds, line_at}
 use Rattle.pl_event.proofs.Places as places
 use Rattle.log_text.specs.declared.cause.LogCause.TheVariants.{Page}
-use Rattle.log_text.specs.Form.{IsPointInForm, IsRecordInForm, MayHave, most_written}
+use Rattle.log_grammar.specs.Form.{IsPointInForm, IsRecordInForm, MayHave, most_written}
 use Rattle.log_text.specs.Pages.{some_page}
-use Rattle.log_text.specs.Spelling.{Entry, page, row, row_of, points_from, entries_of}
+use Rattle.log_grammar.specs.Spelling.{Entry, page, row, row_of, points_from, entries_of}
 use Rattle.log_text.specs.WellFormed.{is_row, is_end_of, is_pending, is_notice_of, is_awaited, on_event, records_in, mapped_in, pages_mapped, breaks, breaks_records, breaks_ended, breaks_notice, is_bad_notice, is_bad_map, Continues, IsLawful, IsWellFormed, IsWritable, rules_in_order, rules_of_any_length}
 use Rattle.log_text.proofs.Flow.{flows}
 use Rattle.pl_base.proofs.Pages.{count_none}

@@ -5,7 +5,7 @@ use Rattle.pl_event.specs.declared.log.Line.{Line}
 use Rattle.pl_event.specs.declared.log.Log.{Log}
 use Rattle.pl_event.specs.declared.log.PageRun.{PageRun}
 use Rattle.pl_event.specs.declared.log.Point.{Point}
-use Rattle.log_text.specs.Spelling.{page, row_of, points_from, entries_of}
+use Rattle.log_grammar.specs.Spelling.{page, row_of, points_from, entries_of}
 
 abbrev pub IsWhole : Line → Type 0
 IsWhole line = length line.arcs ≡ 8

@@ -5,10 +5,11 @@ use Rattle.std.proofs.lemmas.Bool.{false≢true, and_parts, and_from, eqb-true, 
 use Rattle.pl_event.specs.declared.log.Point.{Point}
 use Rattle.pl_event.specs.declared.log.Record.TheVariants as entry
 use Rattle.log_text.specs.declared.tally.Tally.{Tally}
-use Rattle.log_text.specs.Spelling.{Entry, page, row}
+use Rattle.log_grammar.specs.Spelling.{Entry, page, row}
 use Rattle.log_text.specs.Tally.{Keeps, tells, is_told}
 use Rattle.log_text.specs.WellFormed.{records_in, is_row_of, is_pending, is_waiting, has_pending, is_notice_of, is_awaited}
-use Rattle.log_text.proofs.RuleLemmas.{same_tests, list_any_found, list_any_weaker}
+use Rattle.log_grammar.proofs.ArcLemmas.{same_tests}
+use Rattle.log_text.proofs.RuleLemmas.{list_any_found, list_any_weaker}
 
 -- Single lines
 

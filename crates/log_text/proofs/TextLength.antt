@@ -26,8 +26,8 @@ use Rattle.pl_event.specs.declared.log.Point.{Point}
 use Rattle.pl_event.specs.declared.log.Record.{Record}
 use Rattle.pl_event.specs.declared.log.Record.TheVariants as entry
 use Rattle.log_text.specs.declared.cause.LogCause.TheVariants.{Page}
-use Rattle.log_text.specs.Form.{ArePointsInForm, most_read}
-use Rattle.log_text.specs.Spelling.{Entry, page, row_of, load_word, store_word, fault_word, page_word, kind_words, point_word, record_words, entry_text, line_text, version_of, header_text, entries_text, entries_of, log_spelling, points_from}
+use Rattle.log_grammar.specs.Form.{ArePointsInForm, most_read}
+use Rattle.log_grammar.specs.Spelling.{Entry, page, row_of, load_word, store_word, fault_word, page_word, kind_words, point_word, record_words, entry_text, line_text, version_of, header_text, entries_text, entries_of, log_spelling, points_from}
 use Rattle.log_text.specs.WellFormed.{IsWellFormed, IsLawful, breaks, breaks_page, end_after, page_end, is_row, pages_mapped, rules_in_order}
 use Rattle.log_text.specs.Writing.{arcs_text}
 use Rattle.log_text.proofs.RowLaws.{parts_of}

@@ -23,9 +23,9 @@ use Rattle.pl_event.proofs.Places.{record_at, one_place, before_own, before_up, 
 use Rattle.pl_event.proofs.MappedPages.{line_holds}
 use Rattle.pl_event.proofs.Places as places
 use Rattle.log_text.specs.declared.cause.LogCause.{LogCause}
-use Rattle.log_text.specs.Form.{IsInForm, IsRecordInForm, IsPointInForm, MayHave, most_read, most_written}
+use Rattle.log_grammar.specs.Form.{IsInForm, IsRecordInForm, IsPointInForm, MayHave, most_read, most_written}
 use Rattle.log_text.specs.Pages.{some_page}
-use Rattle.log_text.specs.Spelling.{Entry, page, row, row_of, points_from, entries_of}
+use Rattle.log_grammar.specs.Spelling.{Entry, page, row, row_of, points_from, entries_of}
 use Rattle.log_text.specs.WellFormed.{is_row, is_row_of, is_end_of, is_pending, is_notice_of, is_waiting, has_pending, on_event, records_in, page_end, pages_mapped, mapped_in, names_past, breaks, breaks_page, breaks_ended, breaks_arc, breaks_notice, is_bad_notice, is_misaligned, passes_end, is_bad_map, Continues, KeepsRules, IsWellFormed, IsWritable, rules_in_order, rules_of_any_length}
 use Rattle.pl_base.specs.Pages.{count_below}
 use Rattle.pl_base.proofs.Pages.{count_none}

@@ -17,7 +17,7 @@ use Rattle.pl_event.specs.declared.log.PageKind.TheVariants as page_kind
 use Rattle.pl_event.specs.declared.log.Point.{Point}
 use Rattle.pl_event.specs.declared.log.Record.TheVariants as entry
 use Rattle.pl_event.specs.declared.log.Record.{Record}
-use Rattle.log_text.specs.Spelling.{Entry, page, row, hex, load_word, store_word, fault_word, page_word, kind_words, point_word, record_words, arc_words, entry_words, entry_text, version_of, header_text}
+use Rattle.log_grammar.specs.Spelling.{Entry, page, row, hex, load_word, store_word, fault_word, page_word, kind_words, point_word, record_words, arc_words, entry_words, entry_text, version_of, header_text}
 
 -- no byte is a line feed
 abbrev pub is_one_line : List ℕ → Bool

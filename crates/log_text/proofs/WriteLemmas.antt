@@ -13,8 +13,8 @@ use Rattle.pl_event.specs.declared.log.Point.{Point}
 use Rattle.pl_event.specs.declared.log.Record.{Record}
 use Rattle.pl_event.specs.declared.log.Record.TheVariants as entry
 use Rattle.log_text.specs.declared.cause.LogCause.TheVariants.{Page, Records, Hart, Ended, Open, Arc, Notice, Access, Range, Map}
-use Rattle.log_text.specs.Form.{IsInForm, IsRecordInForm, IsPointInForm, ArePointsInForm, most_read, most_written}
-use Rattle.log_text.specs.Spelling.{Entry, page, row, arc_words, kind_words, point_word, record_words, row_of, entry_text, entries_text, line_text}
+use Rattle.log_grammar.specs.Form.{IsInForm, IsRecordInForm, IsPointInForm, ArePointsInForm, most_read, most_written}
+use Rattle.log_grammar.specs.Spelling.{Entry, page, row, arc_words, kind_words, point_word, record_words, row_of, entry_text, entries_text, line_text}
 use Rattle.log_text.specs.WellFormed.{breaks, Continues, IsWellFormed, IsWritable, rules_in_order, rules_of_any_length}
 use Rattle.log_text.specs.Writing.{arcs_text}
 

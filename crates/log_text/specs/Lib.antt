@@ -1,11 +1,11 @@
-pub mod Arcs
-pub mod Begins
-pub mod Form
+pub use Rattle.log_grammar.specs.Arcs
+pub use Rattle.log_grammar.specs.Begins
+pub use Rattle.log_grammar.specs.Form
 pub mod Pages
 pub mod Parts
 pub mod Reading
-pub mod Reads
-pub mod Spelling
+pub use Rattle.log_grammar.specs.Reads
+pub use Rattle.log_grammar.specs.Spelling
 pub mod Tally
 pub mod WellFormed
 pub mod Writing

@@ -5,17 +5,17 @@ use Rattle.pl_event.specs.declared.log.Line.{Line}
 use Rattle.pl_event.specs.declared.log.Log.{Log}
 use Rattle.pl_event.specs.declared.log.PageRun.{PageRun}
 use Rattle.log_text.specs.declared.cause.LogFault.{LogFault}
-use Rattle.log_text.specs.declared.points.ArcList.{ArcList}
+use Rattle.log_grammar.specs.declared.points.ArcList.{ArcList}
 use Rattle.log_text.specs.declared.reader.LogReader.{LogReader}
 use Rattle.log_text.specs.declared.reader.Header.{Header}
 use Rattle.log_text.specs.declared.reader.Row.{Row}
 use Rattle.std.specs.List.{list_any}
 use Rattle.pl_base.specs.declared.layout.TheConstants.{MAX_RECORDS}
-use Rattle.log_text.specs.Arcs.{arcs_in}
-use Rattle.log_text.specs.Begins.{BeginsWithNoPage}
-use Rattle.log_text.specs.Form.{most_read}
+use Rattle.log_grammar.specs.Arcs.{arcs_in}
+use Rattle.log_grammar.specs.Begins.{BeginsWithNoPage}
+use Rattle.log_grammar.specs.Form.{most_read}
 use Rattle.log_text.specs.Parts.{IsValidLine}
-use Rattle.log_text.specs.Spelling.{Entry, header_text, line_text, entries_text, entries_of}
+use Rattle.log_grammar.specs.Spelling.{Entry, header_text, line_text, entries_text, entries_of}
 use Rattle.log_text.specs.Tally.{Keeps}
 use Rattle.log_text.specs.WellFormed.{is_row, IsLawful, IsLogText, IsFirstFault, rules_in_order}
 use Rattle.pl_event.specs.Runs.{IsBlockSize}

@@ -8,7 +8,7 @@ use Rattle.pl_event.specs.declared.log.Point.{Point}
 use Rattle.pl_event.specs.declared.log.Record.TheVariants as entry
 use Rattle.log_text.specs.declared.tally.Tally.{Tally}
 use Rattle.log_text.specs.Pages.{holds_at}
-use Rattle.log_text.specs.Spelling.{Entry, page, row}
+use Rattle.log_grammar.specs.Spelling.{Entry, page, row}
 use Rattle.log_text.specs.WellFormed.{is_row, is_end_of, is_notice_of, page_end, mapped_in, records_in}
 use Rattle.pl_event.specs.Mapping.{mapped_by}
 use Rattle.pl_event.specs.Runs.{ends_hart}

@@ -19,11 +19,11 @@ use Rattle.log_text.specs.declared.cause.LogCause.TheVariants.{Header, Form, Pag
 use Rattle.log_text.specs.declared.cause.LogFault.{LogFault}
 use Rattle.log_text.specs.declared.cause.LogRefused.{LogRefused}
 use Rattle.log_text.specs.declared.cause.LogRefused.TheVariants as refused
-use Rattle.log_text.specs.Spelling.{Entry, page, row, header_text, line_text, entry_text, entries_text, entries_of, log_spelling}
-use Rattle.log_text.specs.Form.{IsInForm, most_read, most_written}
+use Rattle.log_grammar.specs.Spelling.{Entry, page, row, header_text, line_text, entry_text, entries_text, entries_of, log_spelling}
+use Rattle.log_grammar.specs.Form.{IsInForm, most_read, most_written}
 use Rattle.log_text.specs.Pages.{some_page}
 use Rattle.pl_base.specs.Pages.{marked, count_below}
-use Rattle.log_text.specs.Arcs.{is_rising}
+use Rattle.log_grammar.specs.Arcs.{is_rising}
 
 -- Records
 

@@ -1,7 +1,7 @@
 -- The arcs of a line as they are written, one after the other.
 use Rattle.std.specs.Prelude.{ℕ, Bool, true, false, List, [], ◌∷◌, ◌++◌, codes}
 use Rattle.pl_event.specs.declared.log.Point.{Point}
-use Rattle.log_text.specs.Spelling.{point_word}
+use Rattle.log_grammar.specs.Spelling.{point_word}
 
 -- what stands before the first arc, and before each further one
 abbrev pub arc_front : Bool → List ℕ

@@ -2,12 +2,11 @@
 ghost use Rattle.std.specs.Prelude.{◌≡◌, ◌<◌, length, IfSome, IfNone};
 ghost use Rattle.pl_event.specs.declared.log.Log.{Log};
 ghost use Rattle.log_text.specs.declared.cause.LogFault.{LogFault};
-ghost use Rattle.log_text.specs.Begins.{Begins, BeginsWithNoPage, BeginsWithNoRow};
-ghost use Rattle.log_text.specs.Spelling.{Entry};
+ghost use Rattle.log_grammar.specs.Begins.{Begins, BeginsWithNoPage, BeginsWithNoRow};
+ghost use Rattle.log_grammar.specs.Spelling.{Entry};
 ghost use Rattle.log_text.specs.WellFormed.{IsFirstFault, IsLogText};
 
-use crate::grammar::{header_at, page_at, row_at};
-use crate::points::ArcList;
+use log_grammar::{ArcList, header_at, page_at, row_at};
 
 /// Bytes have one first fault at most, and where they have one they are the text of no log. It looks at each line once,
 /// and takes no memory.

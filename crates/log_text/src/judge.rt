@@ -8,15 +8,15 @@ ghost use Rattle.pl_base.specs.Widths.{load_bytes, store_bytes};
 ghost use Rattle.pl_event.specs.declared.log.Point.{Point};
 ghost use Rattle.pl_event.specs.Alerts.{is_alert_kind};
 ghost use Rattle.pl_event.specs.Numbers.{hart_of};
-ghost use Rattle.log_text.specs.Arcs.{ShowsPoints, arc_of, arcs_in};
-ghost use Rattle.log_text.specs.Spelling.{Entry, row, page, points_from};
+ghost use Rattle.log_grammar.specs.Arcs.{ShowsPoints, arc_of, arcs_in};
+ghost use Rattle.log_grammar.specs.Spelling.{Entry, row, page, points_from};
 ghost use Rattle.log_text.specs.Tally.{Keeps};
 ghost use Rattle.log_text.specs.WellFormed.{broken, breaks, rules_of_fields, breaks_page, breaks_records, breaks_hart, breaks_ended, breaks_arc, breaks_notice, names_past, is_waiting, is_awaited, records_in, is_bad_notice, is_notice, has_pending, on_event, is_misaligned, passes_end, is_bad_map};
 ghost use Rattle.pl_event.specs.Runs.{ends_hart};
 
 use crate::cause::LogCause;
-use crate::points::ArcList;
 use crate::tally::Tally;
+use log_grammar::ArcList;
 use pl_base::layout::{MAX_MAPPED_PAGES, MAX_RECORDS, MEMORY_BYTES, PAGE_COUNT};
 use pl_base::{LoadWidth, StoreWidth};
 use pl_event::{Kind, PageRun, Point, Record, is_alert, record_hart};

@@ -3,7 +3,7 @@ ghost use Rattle.std.specs.Prelude.{◌↔◌, ◌≤◌, ◌<◌, ◌^◌, leng
 ghost use Rattle.pl_base.specs.declared.layout.TheConstants.{MAX_RECORDS};
 ghost use Rattle.pl_event.specs.declared.log.Log.{Log};
 ghost use Rattle.pl_event.specs.Runs.{IsRunLog, HasNumbersTo};
-ghost use Rattle.log_text.specs.Form.{most_written};
+ghost use Rattle.log_grammar.specs.Form.{most_written};
 ghost use Rattle.log_text.specs.WellFormed.{IsWellFormed, IsWritable};
 
 /// A log is well-formed exactly where it is the log of a run and has at most 2,000,000 records. It may be written

@@ -7,11 +7,9 @@
 
 mod cause;
 mod faults;
-mod grammar;
 mod judge;
 mod laws;
 mod page_set;
-mod points;
 mod read;
 mod reader;
 mod source;

@@ -5,16 +5,15 @@
 
 ghost use Rattle.std.specs.Prelude.{◌≡◌, ◌≤◌, ◌<◌, ◌+◌, ◌++◌, ◌%◌, ◌^◌, ℕ, List, [], ◌∷◌, length, drop, OnOk, Some, Err, IfErr, IfOk};
 ghost use Rattle.pl_event.specs.declared.log.Log.{Log};
-ghost use Rattle.log_text.specs.Begins.{BeginsWithNoRow, BeginsWithNoPage};
+ghost use Rattle.log_grammar.specs.Begins.{BeginsWithNoRow, BeginsWithNoPage};
 ghost use Rattle.log_text.specs.WellFormed.{IfFault};
 ghost use Rattle.log_text.specs.Reading.{HasRead, IsReadBy, HoldsLine, HoldsNext, ReadsRow, IsOnly, IsNoLog, IfFound, IfMissed, opened, with_pages, line_of};
 
 use crate::cause::{LogCause, LogFault, LogRefused};
-use crate::grammar::{header_at, page_at, row_at};
 use crate::judge::{judge_page, some_is_open};
-use crate::points::ArcList;
 use crate::take::take_row;
 use crate::tally::Tally;
+use log_grammar::{ArcList, header_at, page_at, row_at};
 use pl_event::{Arcs, Line, Lines, PageRun, Record};
 use std::alloc::{AllocError, Global};
 

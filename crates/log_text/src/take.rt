@@ -4,15 +4,15 @@
 
 ghost use Rattle.std.specs.Prelude.{◌≡◌, ◌++◌, ◌∷◌, [], List, None};
 ghost use Rattle.pl_event.specs.declared.log.Point.{Point};
-ghost use Rattle.log_text.specs.Arcs.{ShowsPoints};
-ghost use Rattle.log_text.specs.Spelling.{Entry, row};
+ghost use Rattle.log_grammar.specs.Arcs.{ShowsPoints};
+ghost use Rattle.log_grammar.specs.Spelling.{Entry, row};
 ghost use Rattle.log_text.specs.Tally.{Keeps};
 ghost use Rattle.log_text.specs.WellFormed.{broken};
 
 use crate::cause::LogCause;
 use crate::judge::judge_row;
-use crate::points::ArcList;
 use crate::tally::Tally;
+use log_grammar::ArcList;
 use pl_event::{Point, Record};
 
 /// The first rule that a record breaks behind the lines so far; where it breaks none, it is one of them from now on.

@@ -25,7 +25,7 @@ pub struct Tally {
 impl Tally {
     ghost use Rattle.std.specs.Prelude.{◌≡◌, ◌<◌, ◌≤◌, ◌+◌, List, [], ◌∷◌, ◌++◌, ℕ, None, IfOk};
     ghost use Rattle.pl_event.specs.declared.log.Point.{Point};
-    ghost use Rattle.log_text.specs.Spelling.{Entry, page, row};
+    ghost use Rattle.log_grammar.specs.Spelling.{Entry, page, row};
     ghost use Rattle.log_text.specs.Tally.{Keeps, AddsKind};
     ghost use Rattle.log_text.specs.WellFormed.{broken};
 

@@ -3,7 +3,7 @@
 ghost use Rattle.std.specs.Prelude.{◌≡◌, ◌<◌, ◌^◌, ◌++◌, ◌∷◌, ℕ, suc, true, List, Option, All, length, map, IfOk, OnOk, string_bytes};
 ghost use Rattle.std.specs.List.{join_with_byte};
 ghost use Rattle.pl_event.specs.declared.log.Line.{Line};
-ghost use Rattle.log_text.specs.Spelling.{page, row_of, kind_words, record_words, load_word, store_word, fault_word, page_word, point_word, header_text, line_text, entry_text, entries_text, log_spelling, points_from};
+ghost use Rattle.log_grammar.specs.Spelling.{page, row_of, kind_words, record_words, load_word, store_word, fault_word, page_word, point_word, header_text, line_text, entry_text, entries_text, log_spelling, points_from};
 ghost use Rattle.log_text.specs.WellFormed.{IsWellFormed, IsWritable, IsLogText};
 ghost use Rattle.log_text.specs.Writing.{arcs_text};
 

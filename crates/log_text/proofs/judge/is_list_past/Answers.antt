@@ -1,4 +1,4 @@
-use Rattle.log_text.proofs.ArcLemmas.{any_past}
+use Rattle.log_grammar.proofs.ArcLemmas.{any_past}
 use Rattle.log_text.proofs.judge.is_list_past.Goals as goal
 
 pub returns-then-has_arcs : goal.returns-then-has_arcs

@@ -2,9 +2,9 @@ use Rattle.std.proofs.Common.{◌+◌, ◌<◌, ◌||◌, ◌==◌, nat_lt, leng
 use Rattle.std.proofs.Math.Bool.{or_assoc, or-false}
 use Rattle.std.specs.List.{list_any}
 use Rattle.pl_event.specs.declared.log.Point.{Point}
-use Rattle.log_text.specs.Arcs.{arcs_in}
-use Rattle.log_text.specs.Spelling.{points_from}
-use Rattle.log_text.proofs.ArcLemmas.{any_from, any_from_end}
+use Rattle.log_grammar.specs.Arcs.{arcs_in}
+use Rattle.log_grammar.specs.Spelling.{points_from}
+use Rattle.log_grammar.proofs.ArcLemmas.{any_from, any_from_end}
 use Rattle.log_text.proofs.judge.some_arc_is_bad.Goals as goal
 
 pub harts-preserved : goal.harts-preserved

@@ -1,8 +1,8 @@
 use Rattle.std.proofs.Common.{◌≡◌, ◌||◌, ◌==◌, nat_lt, get_or, drop}
 use Rattle.std.specs.List.{list_any}
 use Rattle.pl_event.specs.declared.log.Point.{Point}
-use Rattle.log_text.specs.Arcs.{arcs_in}
-use Rattle.log_text.specs.Spelling.{points_from}
+use Rattle.log_grammar.specs.Arcs.{arcs_in}
+use Rattle.log_grammar.specs.Spelling.{points_from}
 use Rattle.log_text.proofs.judge.some_arc_is_bad.Given as goal
 
 abbrev pub invariant-harts : goal.invariant-harts

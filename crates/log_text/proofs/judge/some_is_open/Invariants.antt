@@ -1,5 +1,5 @@
 use Rattle.std.proofs.Common.{◌≡◌, ℕ, ◌<◌, false, List}
-use Rattle.log_text.specs.Spelling.{Entry}
+use Rattle.log_grammar.specs.Spelling.{Entry}
 use Rattle.log_text.specs.Tally.{Keeps}
 use Rattle.log_text.specs.WellFormed.{is_waiting}
 use Rattle.log_text.proofs.judge.some_is_open.Given as goal

@@ -1,5 +1,5 @@
 use Rattle.std.proofs.Common.{arith}
-use Rattle.log_text.specs.Form.{most_written}
+use Rattle.log_grammar.specs.Form.{most_written}
 use Rattle.log_text.proofs.RunOfText.{run_of_text, numbers_of_text, short_of}
 use Rattle.log_text.proofs.TextOfRun.{writable_of, formed_of, numbers_to}
 use Rattle.log_text.proofs.WriteLemmas.{writable}

@@ -1,6 +1,6 @@
 use Rattle.std.proofs.Common.{◌≡◌, ◌++◌, true, drop}
 use Rattle.std.specs.Prelude.{string_bytes}
-use Rattle.log_text.specs.Spelling.{points_from}
+use Rattle.log_grammar.specs.Spelling.{points_from}
 use Rattle.log_text.specs.Writing.{arcs_text}
 use Rattle.log_text.proofs.write.write_arcs.Given as goal
 

@@ -1,4 +1,4 @@
-use Rattle.log_text.specs.Spelling.{points_from}
+use Rattle.log_grammar.specs.Spelling.{points_from}
 use Rattle.log_text.proofs.WriteLemmas.{row_joined}
 use Rattle.std.proofs.lemmas.Grind.{common_steps}
 use Rattle.std.proofs.Common.{arith}

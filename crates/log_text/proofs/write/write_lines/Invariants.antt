@@ -1,6 +1,6 @@
 use Rattle.std.proofs.Common.{◌≡◌, ◌++◌, map, take}
 use Rattle.std.specs.Prelude.{string_bytes}
-use Rattle.log_text.specs.Spelling.{row_of, entries_text}
+use Rattle.log_grammar.specs.Spelling.{row_of, entries_text}
 use Rattle.log_text.proofs.write.write_lines.Given as goal
 
 -- the lines so far

@@ -1,6 +1,6 @@
 use Rattle.std.proofs.Common.{arith, ◌≡◌, ◌<◌, ◌^◌, length, List, ℕ, sym, subst}
 use Rattle.std.proofs.lemmas.Grind.{common_steps}
-use Rattle.log_text.specs.Spelling.{log_spelling}
+use Rattle.log_grammar.specs.Spelling.{log_spelling}
 use Rattle.log_text.proofs.TextLength.{text_short}
 use Rattle.log_text.proofs.write.write_log.Goals as goal
 

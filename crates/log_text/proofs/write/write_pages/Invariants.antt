@@ -1,6 +1,6 @@
 use Rattle.std.proofs.Common.{◌≡◌, ◌++◌, map, take}
 use Rattle.std.specs.Prelude.{string_bytes}
-use Rattle.log_text.specs.Spelling.{page, entries_text}
+use Rattle.log_grammar.specs.Spelling.{page, entries_text}
 use Rattle.log_text.proofs.write.write_pages.Given as goal
 
 -- the lines of the pages so far

@@ -1,6 +1,6 @@
 use Rattle.std.proofs.Common.{◌∙◌, sym}
-use Rattle.log_text.specs.Begins.{Begins, BeginsWithNoPage}
-use Rattle.log_text.specs.Spelling.{page, entries_of}
+use Rattle.log_grammar.specs.Begins.{Begins, BeginsWithNoPage}
+use Rattle.log_grammar.specs.Spelling.{page, entries_of}
 use Rattle.log_text.proofs.ReaderLemmas.{end_clean, end_open, end_formless, end_pages, some_is, none_is, no_bytes, some_bytes}
 use Rattle.log_text.proofs.reader.LogReader.finish.Goals as goal
 

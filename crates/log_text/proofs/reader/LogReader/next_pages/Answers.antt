@@ -1,5 +1,5 @@
 use Rattle.std.proofs.Common.{sym, ap, ◌∙◌, ◌≡◌, None, ℕ}
-use Rattle.log_text.specs.Spelling.{page, entries_of}
+use Rattle.log_grammar.specs.Spelling.{page, entries_of}
 use Rattle.log_text.specs.WellFormed.{broken}
 use Rattle.log_text.proofs.ReaderLemmas.{by_pages, page_broken, pages_over}
 use Rattle.log_text.proofs.reader.LogReader.next_pages.Goals as goal

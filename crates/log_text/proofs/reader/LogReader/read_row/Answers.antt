@@ -1,5 +1,5 @@
 use Rattle.std.proofs.Common.{refl, sym}
-use Rattle.log_text.specs.Spelling.{entries_of}
+use Rattle.log_grammar.specs.Spelling.{entries_of}
 use Rattle.log_text.proofs.ReaderLemmas.{row_read, row_broken}
 use Rattle.log_text.proofs.reader.LogReader.read_row.Goals as goal
 

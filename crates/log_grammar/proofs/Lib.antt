@@ -1,0 +1,7 @@
+pub mod ArcLemmas
+pub mod ArcReading
+pub mod Chain
+pub mod KindFields
+pub mod LineTexts
+pub mod PointLemmas
+pub mod Widths

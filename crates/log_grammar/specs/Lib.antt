@@ -1,0 +1,5 @@
+pub mod Spelling
+pub mod Form
+pub mod Arcs
+pub mod Reads
+pub mod Begins

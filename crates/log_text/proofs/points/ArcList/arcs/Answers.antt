@@ -1,6 +1,0 @@
-use Rattle.std.proofs.Common.{arith}
-use Rattle.log_text.proofs.ArcLemmas.{same_arcs}
-use Rattle.log_text.proofs.points.ArcList.arcs.Goals as goal
-
-pub returns : goal.returns
-returns c = same_arcs c.harts.arcs c.args.self.now.numbers c.harts.invariant.eight (omega arith) (λ k few. c.harts.invariant.set k (omega arith))

@@ -10,7 +10,7 @@ ghost use Rattle.pl_event.specs.Runs.{IsBlockSize};
 ghost use Rattle.pl_event.specs.Valid.{IsValidEvent};
 ghost use Rattle.log_clocks.specs.Clocks.{time};
 ghost use Rattle.log_clocks.specs.LastAccesses.{HasLast};
-ghost use Rattle.log_check.specs.inner.Partners.{IsClear, IsPartner};
+ghost use Rattle.log_check.specs.inner.Partners.{FindsPartner};
 ghost use Rattle.log_check.specs.inner.Watched.{IsWatched};
 
 use crate::alerts::AlertWatch;
@@ -59,11 +59,12 @@ impl OrderCheck {
         requires few { length log.now.lines < 2 ^ 32 }
         requires log { IsCheckable log.now }
         requires valid { IsValidEvent event.now 8 }
-        requires event { (m : ℕ) × IsEvent log.now.lines at m event.now × IsClock (Into log.now.lines) event.now.hart m (time clock.now) }
+        requires event { (m : ℕ) × IsEvent log.now.lines at m event.now
+            × IsClock (Into log.now.lines) event.now.hart m (time clock.now) }
         requires heads { Tells self.now.heads log.now.lines at }
         requires lasts { HasLast self.now.lasts log.now.block log.now.lines at }
         requires alerts { IsWatched self.now.alerts log.now.lines at }
-        ensures { MatchOption result (IsClear log.now.block log.now.lines at at) (λ point. IsPartner log.now.block log.now.lines at point) }
+        ensures { FindsPartner log.now.block log.now.lines at result }
     {
         if !self.lasts.are_known(event, clock) || self.alerts.suspects(&self.heads, event) {
             let later = Later {
@@ -83,11 +84,12 @@ impl OrderCheck {
         requires few { length log.now.lines < 2 ^ 32 }
         requires log { IsCheckable log.now }
         requires line { IsNext log.now.lines at (hart_of line.now.what) line.now }
-        requires clock { IsClock (Into log.now.lines) (hart_of line.now.what) (records_before (hart_of line.now.what) log.now.lines at + 1) (time clock.now) }
+        requires clock { let h = hart_of line.now.what in let g = log.now.lines in
+            IsClock (Into g) h (records_before h g at + 1) (time clock.now) }
         requires heads { Tells self.now.heads log.now.lines at }
         requires lasts { HasLast self.now.lasts log.now.block log.now.lines at }
         requires alerts { IsWatched self.now.alerts log.now.lines at }
-        ensures { MatchOption result (IsClear log.now.block log.now.lines at at) (λ point. IsPartner log.now.block log.now.lines at point) }
+        ensures { FindsPartner log.now.block log.now.lines at result }
     {
         match line.what {
             Record::Event(event) => self.partner(log, at, &event, clock),
@@ -109,7 +111,9 @@ impl OrderCheck {
         requires log { IsCheckable log.now }
         requires line { slice_get log.now.lines at ≡ Some line.now }
         requires checked { IsChecked self.old log.now at }
-        ensures { IfOk result (λ found. MatchOption found (IsChecked self.new log.now (at + 1)) (λ pair. NamesFirst log.now pair.earlier pair.later)) }
+        ensures { IfOk result (λ found. MatchOption found
+            (IsChecked self.new log.now (at + 1))
+            (λ pair. NamesFirst log.now pair.earlier pair.later)) }
     {
         let hart = record_hart(&line.what);
         let needs = self.heads.needs(line, hart);

@@ -17,12 +17,14 @@ last lasts block store u = in_row (row_at lasts.index.items lasts.rows.items blo
 -- record n of hart u is among the first i lines, and loads from the block, or stores to it
 abbrev pub IsAccess : ℕ → List Line → ℕ → ℕ → ℕ → ℕ → Bool → Type 0
 IsAccess size lines i u n block store =
-    (j : ℕ) × (event : Event) × (j < i) × IsEvent lines j n event × (event.hart ≡ u) × (access_of size event.kind ≡ Some (record { block = block; store = store }))
+    (j : ℕ) × (event : Event) × (j < i) × IsEvent lines j n event × (event.hart ≡ u)
+    × (access_of size event.kind ≡ Some (record { block = block; store = store }))
 
 -- the table has the last accesses of the first i lines
 pub record HasLast (lasts : LastAccesses) (size : ℕ) (lines : List Line) (i : ℕ) : Type 0 where
   pub sized : lasts.size ≡ size
-  pub told : (u block : ℕ) (store : Bool) → 1 ≤ last lasts block store u → IsAccess size lines i u (last lasts block store u) block store
+  pub told : (u block : ℕ) (store : Bool) → 1 ≤ last lasts block store u →
+      IsAccess size lines i u (last lasts block store u) block store
   pub every : (u n block : ℕ) (store : Bool) → IsAccess size lines i u n block store → n ≤ last lasts block store u
   pub indexed : IsIndexed lasts.index.items lasts.rows.items
 

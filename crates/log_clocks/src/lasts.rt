@@ -45,7 +45,8 @@ impl Row {
     fn set(&mut self, store: bool, hart: u8, number: u32)
         requires { hart < 8 }
         ensures here { in_row self.new store hart ≡ number }
-        ensures others { (other : Bool) (u : ℕ) → ((other ≡ store) × (u ≡ hart) → ⊥) → in_row self.new other u ≡ in_row self.old other u }
+        ensures others { (other : Bool) (u : ℕ) → ((other ≡ store) × (u ≡ hart) → ⊥) →
+            in_row self.new other u ≡ in_row self.old other u }
     {
         if store {
             self.stores[hart as usize] = number;
@@ -72,7 +73,8 @@ impl Row {
     #[inline]
     fn is_known(&self, store: bool, hart: u8, clock: &Clock) -> bool
         ensures yes { IsTrue result → (u : ℕ) → u < 8 → (u ≡ hart → ⊥) → newest self.now store u ≤ time clock.now u }
-        ensures no { result ≡ false → (u : ℕ) × (u < 8) × (u ≡ hart → ⊥) × (time clock.now u < newest self.now store u) }
+        ensures no { result ≡ false → (u : ℕ) × (u < 8) × (u ≡ hart → ⊥)
+            × (time clock.now u < newest self.now store u) }
     {
         for u in 0..8u8 {
             if u != hart && self.newest(store, u) > clock.get(u) {
@@ -85,7 +87,8 @@ impl Row {
     // For each other hart the last access that conflicts.
     fn conflicting(&self, store: bool, hart: u8) -> Arcs
         ensures own { slice_index_or result hart None ≡ None }
-        ensures others { (u : ℕ) → u < 8 → (u ≡ hart → ⊥) → slice_index_or result u None ≡ some_number (newest self.now store u) }
+        ensures others { (u : ℕ) → u < 8 → (u ≡ hart → ⊥) →
+            slice_index_or result u None ≡ some_number (newest self.now store u) }
     {
         let mut found = Arcs::none();
         for u in 0..8u8 {
@@ -167,7 +170,8 @@ impl LastAccesses {
         ensures size { self.new.size ≡ self.old.size }
         ensures within { IfOk result (λ slot. slot < length self.new.rows.items) }
         ensures own { IsIndexed self.old.index.items self.old.rows.items → IfOk result (λ slot.
-            IsIndexed self.new.index.items self.new.rows.items × (slice_index self.new.index.items block ≡ slot) × (1 ≤ slot)
+            IsIndexed self.new.index.items self.new.rows.items × (slice_index self.new.index.items block ≡ slot)
+            × (1 ≤ slot)
             × ((b : ℕ) → row_at self.new.index.items self.new.rows.items b ≡ row_at self.old.index.items self.old.rows.items b)) }
     {
         let slot = self.slot(block);
@@ -189,7 +193,8 @@ impl LastAccesses {
         ensures size { self.new.size ≡ self.old.size }
         ensures noted { IsIndexed self.old.index.items self.old.rows.items → IfOk result (λ _.
             IsIndexed self.new.index.items self.new.rows.items × (last self.new block store hart ≡ number)
-            × ((b : ℕ) (s : Bool) (u : ℕ) → ((b ≡ block) × (s ≡ store) × (u ≡ hart) → ⊥) → last self.new b s u ≡ last self.old b s u)) }
+            × ((b : ℕ) (s : Bool) (u : ℕ) → ((b ≡ block) × (s ≡ store) × (u ≡ hart) → ⊥) →
+            last self.new b s u ≡ last self.old b s u)) }
     {
         let slot = self.own_row(block)?;
         self.rows[slot].set(store, hart, number);
@@ -211,7 +216,8 @@ impl LastAccesses {
     pub fn pass(&mut self, line: &Line, number: u32) -> Result<(), NoMemory>
         requires { IsSoundLine 8 line.now }
         ensures { (size : ℕ) (lines : List Line) (i : ℕ) → HasLast self.old size lines i →
-            IsRecord lines i (hart_of line.now.what) number line.now → IfOk result (λ _. HasLast self.new size lines (i + 1)) }
+            IsRecord lines i (hart_of line.now.what) number line.now →
+            IfOk result (λ _. HasLast self.new size lines (i + 1)) }
     {
         match line.what {
             Record::Event(event) => self.take(&event, number),
@@ -244,7 +250,8 @@ impl LastAccesses {
     /// For each other hart its last record so far that conflicts with the next event by a block.
     pub fn candidates(&self, event: &Event) -> Arcs
         requires { IsValidEvent event.now 8 }
-        ensures { (size : ℕ) (lines : List Line) (i m : ℕ) → HasLast self.now size lines i → IsEvent lines i m event.now →
+        ensures { (size : ℕ) (lines : List Line) (i m : ℕ) → HasLast self.now size lines i →
+            IsEvent lines i m event.now →
             (u : ℕ) → u < 8 → IsMost (λ k. Shares size lines u k event.now.hart m) (slice_index_or result u None) }
     {
         match event.kind {
@@ -267,9 +274,11 @@ impl LastAccesses {
     /// Whether a clock knows each record of another hart so far that conflicts with the next event by a block.
     pub fn are_known(&self, event: &Event, clock: &Clock) -> bool
         requires { IsValidEvent event.now 8 }
-        ensures yes { (size : ℕ) (lines : List Line) (i m : ℕ) → HasLast self.now size lines i → IsEvent lines i m event.now →
+        ensures yes { (size : ℕ) (lines : List Line) (i m : ℕ) → HasLast self.now size lines i →
+            IsEvent lines i m event.now →
             IsTrue result → KnowsShared size lines event.now m clock.now }
-        ensures no { (size : ℕ) (lines : List Line) (i m : ℕ) → HasLast self.now size lines i → IsEvent lines i m event.now →
+        ensures no { (size : ℕ) (lines : List Line) (i m : ℕ) → HasLast self.now size lines i →
+            IsEvent lines i m event.now →
             result ≡ false → KnowsShared size lines event.now m clock.now → ⊥ }
     {
         match event.kind {

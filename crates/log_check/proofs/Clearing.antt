@@ -1,18 +1,19 @@
 -- Which events are ordered before the one at a position, and what that says of the log.
-use Rattle.std.proofs.Common.{◌≡◌, ⊎_elim, ℕ, ◌+◌, ◌<◌, ◌≤◌, List, Option, Some, None, slice_index_or, refl, sym, ap, ◌∙◌, subst, arith}
+use Rattle.std.proofs.Common.{◌≡◌, ⊎_elim, ℕ, ◌+◌, ◌<◌, ◌≤◌, List, refl, sym, ap, ◌∙◌, subst, arith}
 use mathlib.Core.Logic.{dite}
 use native.Mathlib.Decide.{ℕ_discrete}
 use Rattle.pl_event.specs.declared.event.Event.{Event}
 use Rattle.pl_event.specs.declared.log.Line.{Line}
 use Rattle.pl_event.specs.declared.log.Log.{Log}
 use Rattle.pl_event.specs.declared.log.Point.{Point}
-use Rattle.pl_event.specs.Candidates.{Shares}
 use Rattle.pl_event.specs.Conflicts.{access_of, ShareBlock, IsPair, AreOrdered}
 use Rattle.pl_event.specs.Edges.{Into, IsFlow}
 use Rattle.pl_event.specs.Graph.{Path, IsClock}
-use Rattle.pl_event.specs.Needs.{IsMost}
 use Rattle.pl_event.specs.Records.{records_before, IsEvent}
 use Rattle.pl_event.specs.Unordered.{IsOrderedPair, IsFirstUnordered}
+use Rattle.log_clocks.specs.declared.clock.Clock.{Clock}
+use Rattle.log_clocks.specs.Clocks.{time}
+use Rattle.log_clocks.specs.LastAccesses.{KnowsShared}
 use Rattle.log_clocks.proofs.Accesses.{at_one}
 use Rattle.log_check.specs.Answers.{NamesFirst}
 use Rattle.log_check.specs.inner.Partners.{IsClear, IsPartner}
@@ -56,23 +57,14 @@ module _ (size : ℕ) (g : List Line) (at m : ℕ) (b : Event) (is : IsEvent g a
       (λ e. fine a n (subst (λ (z : ℕ). IsPair g z at a n b m) e pair))
       (λ ne. clear k a n b m (omega arith) pair))
 
-  -- each candidate is known to the clock
-  module _ (harts : ℕ) (flow : IsFlow harts g) (few : harts ≤ 8) (clock : ℕ → ℕ) (right : IsClock (Into g) b.hart m clock) (candidates : List (Option ℕ))
-      (most : (u : ℕ) → u < 8 → IsMost (λ k. Shares size g u k b.hart m) (slice_index_or candidates u None))
-      (known : (u n : ℕ) → u < 8 → slice_index_or candidates u None ≡ Some n → n ≤ clock u) where
-    within : (u k : ℕ) → u < 8 → Shares size g u k b.hart m → k ≤ clock u
-    within u k low shares = by (slice_index_or candidates u None) refl (most u low)
-      where
-        by : (o : Option ℕ) → slice_index_or candidates u None ≡ o → IsMost (λ k. Shares size g u k b.hart m) o → k ≤ clock u
-        by None e none = absurd (none k shares)
-        by (Some n) e most = let l : k ≤ n = most.1 k shares in let r : n ≤ clock u = known u n low e in omega arith
-
-    pub path_of : (x : ℕ) (a : Event) (n : ℕ) → IsPair g x at a n b m → ShareBlock (access_of size a.kind) (access_of size b.kind) → Path (Into g) a.hart n b.hart m
-    path_of x a n pair share =
-        let low : a.hart < 8 = low_hart harts g flow few x n a pair.first in
-        let le : n ≤ clock a.hart = within a.hart n low (record { i = x; j = at; a = a; b = b; pair = pair; first = refl; second = refl; block = share }) in
-        let one : records_before a.hart g x + 1 ≡ n = pair.first.1.number in
-        ⊎_elim (λ (s : (a.hart ≡ b.hart) × (n ≡ m)). absurd (pair.apart s.0)) (λ (p : Path (Into g) a.hart n b.hart m). p) (right.told a.hart n (omega arith) le)
+  -- the clock knows each earlier record that shares the block
+  pub path_of : (harts : ℕ) → IsFlow harts g → harts ≤ 8 → (clock : Clock) → IsClock (Into g) b.hart m (time clock) → KnowsShared size g b m clock
+      → (x : ℕ) (a : Event) (n : ℕ) → IsPair g x at a n b m → ShareBlock (access_of size a.kind) (access_of size b.kind) → Path (Into g) a.hart n b.hart m
+  path_of harts flow few clock right known x a n pair share =
+      let low : a.hart < 8 = low_hart harts g flow few x n a pair.first in
+      let le : n ≤ time clock a.hart = known a.hart n low (record { i = x; j = at; a = a; b = b; pair = pair; first = refl; second = refl; block = share }) in
+      let one : records_before a.hart g x + 1 ≡ n = pair.first.1.number in
+      ⊎_elim (λ (s : (a.hart ≡ b.hart) × (n ≡ m)). absurd (pair.apart s.0)) (λ (p : Path (Into g) a.hart n b.hart m). p) (right.told a.hart n (omega arith) le)
 
 -- the partner makes the first pair
 pub names_first : (log : Log) (at : ℕ) (earlier later : Point) → AreOrdered log.block log.lines at → IsPartner log.block log.lines at earlier

@@ -1,3 +1,4 @@
 pub mod Positions
 pub mod Watching
 pub mod Clearing
+pub mod Growing

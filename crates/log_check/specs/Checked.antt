@@ -1,6 +1,7 @@
 -- What a check of a log's order has shown of its first lines.
-use Rattle.std.specs.Prelude.{ℕ, ◌≤◌, All}
+use Rattle.std.specs.Prelude.{◌≡◌, ℕ, ◌≤◌, ◌++◌, List, All}
 use Rattle.pl_base.specs.declared.layout.TheConstants.{MAX_HARTS}
+use Rattle.pl_event.specs.declared.log.Line.{Line}
 use Rattle.pl_event.specs.declared.log.Log.{Log}
 use Rattle.pl_event.specs.Conflicts.{AreOrdered}
 use Rattle.pl_event.specs.Edges.{IsFlow}
@@ -25,3 +26,10 @@ pub record IsChecked (check : OrderCheck) (log : Log) (i : ℕ) : Type 0 where
   pub lasts : HasLast check.lasts log.block log.lines i
   pub alerts : IsWatched check.alerts log.lines i
   pub ordered : AreOrdered log.block log.lines i
+
+-- the new log has the lines of the old one and more
+pub record GrowsTo (old new : Log) : Type 0 where
+  pub block : new.block ≡ old.block
+  pub more : List Line
+  pub lines : new.lines ≡ old.lines ++ more
+  pub flow : IsFlow new.harts new.lines

@@ -57,7 +57,8 @@ impl AlertWatch {
         requires hart { event.now.hart < 8 }
         requires few { slice_index heads.now.records event.now.hart + 1 < 2 ^ 32 }
         ensures { result ≡ false → (harts : ℕ) (lines : List Line) (i m : ℕ) →
-            IsFlow harts lines → harts ≤ 8 → Tells heads.now lines i → IsEvent lines i m event.now → IsWatched self.now lines i →
+            IsFlow harts lines → harts ≤ 8 → Tells heads.now lines i → IsEvent lines i m event.now →
+            IsWatched self.now lines i →
             (k : ℕ) (a : Event) (n : ℕ) → IsPair lines k i a n event.now m → MeetByAlert a.kind event.now.kind →
             IsNoticed lines a n event.now m }
     {
@@ -74,7 +75,8 @@ impl AlertWatch {
         requires hart { hart < 8 }
         requires few { slice_index heads.now.records hart + 1 < 2 ^ 32 }
         ensures active { self.new.active ≡ self.old.active }
-        ensures kept { (u : ℕ) → slice_index_or self.new.missed u false ≡ false → slice_index_or self.old.missed u false ≡ false }
+        ensures kept { (u : ℕ) → slice_index_or self.new.missed u false ≡ false →
+            slice_index_or self.old.missed u false ≡ false }
         ensures missed { (u : ℕ) → u < 8 → slice_index_or self.new.missed u false ≡ false → u ≢ hart →
             (harts : ℕ) (lines : List Line) (i : ℕ) (line : Line) →
             IsFlow harts lines → Tells heads.now lines i → IsNext lines i hart line →

@@ -15,7 +15,8 @@ pub(crate) struct Touched {
 // What a load or a store touches.
 fn block_of(size: u8, kind: &Kind) -> Option<Touched>
     requires { 0 < size }
-    ensures { MatchOption result (access_of size kind.now ≡ None) (λ touched. access_of size kind.now ≡ Some (record { block = touched.block; store = touched.is_store })) }
+    ensures { MatchOption result (access_of size kind.now ≡ None) (λ touched.
+        access_of size kind.now ≡ Some (record { block = touched.block; store = touched.is_store })) }
 {
     let size = u32::from(size);
     match *kind {

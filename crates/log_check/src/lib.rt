@@ -9,9 +9,13 @@
 
 mod alerts;
 mod conflicts;
+mod growth;
 mod order_check;
 mod ordered;
 mod partner;
+#[cfg(test)]
+mod tests;
 
+pub use growth::grown_checks;
 pub use order_check::{OrderCheck, UnorderedPair};
 pub use ordered::{CheckRefused, OrderedLog, check};

@@ -1,5 +1,5 @@
 //! The check of a log, line by line.
-ghost use Rattle.std.specs.Prelude.{◌≡◌, ℕ, ◌+◌, ◌^◌, ◌<◌, ◌≤◌, length, IfOk, MatchOption, None, Some, slice_index_or, false};
+ghost use Rattle.std.specs.Prelude.{◌≡◌, ℕ, ◌+◌, ◌^◌, ◌<◌, ◌≤◌, length, IfOk, MatchOption, Some, slice_get};
 ghost use Rattle.pl_event.specs.declared.log.Log.{Log};
 ghost use Rattle.pl_event.specs.Edges.{Into};
 ghost use Rattle.pl_event.specs.Graph.{IsClock};
@@ -10,14 +10,14 @@ ghost use Rattle.pl_event.specs.Runs.{IsBlockSize};
 ghost use Rattle.pl_event.specs.Valid.{IsValidEvent};
 ghost use Rattle.log_clocks.specs.Clocks.{time};
 ghost use Rattle.log_clocks.specs.LastAccesses.{HasLast};
-ghost use Rattle.log_check.specs.inner.Partners.{IsClear, IsPartner};
+ghost use Rattle.log_check.specs.inner.Partners.{FindsPartner};
 ghost use Rattle.log_check.specs.inner.Watched.{IsWatched};
 
 use crate::alerts::AlertWatch;
 use crate::partner::Later;
 use log_clocks::{Clock, Clocks, LastAccesses};
 use pl_base::NoMemory;
-use pl_event::{Arcs, Event, Heads, Line, Log, Point, Record, record_hart};
+use pl_event::{Event, Heads, Line, Log, Point, Record, record_hart};
 use std::alloc::Global;
 
 /// Two events that conflict and are not ordered.
@@ -34,20 +34,6 @@ pub struct OrderCheck {
     clocks: Clocks,
     lasts: LastAccesses,
     alerts: AlertWatch,
-}
-
-// Whether a candidate is not known to a clock.
-fn is_ahead(candidates: &Arcs, clock: &Clock) -> bool
-    ensures { result ≡ false → (u n : ℕ) → u < 8 → slice_index_or candidates.now u None ≡ Some n → n ≤ time clock.now u }
-{
-    for u in 0..8u8 {
-        if let Some(number) = candidates.get(u) {
-            if number > clock.get(u) {
-                return true;
-            }
-        }
-    }
-    false
 }
 
 impl OrderCheck {
@@ -73,14 +59,14 @@ impl OrderCheck {
         requires few { length log.now.lines < 2 ^ 32 }
         requires log { IsCheckable log.now }
         requires valid { IsValidEvent event.now 8 }
-        requires event { (m : ℕ) × IsEvent log.now.lines at m event.now × IsClock (Into log.now.lines) event.now.hart m (time clock.now) }
+        requires event { (m : ℕ) × IsEvent log.now.lines at m event.now
+            × IsClock (Into log.now.lines) event.now.hart m (time clock.now) }
         requires heads { Tells self.now.heads log.now.lines at }
         requires lasts { HasLast self.now.lasts log.now.block log.now.lines at }
         requires alerts { IsWatched self.now.alerts log.now.lines at }
-        ensures { MatchOption result (IsClear log.now.block log.now.lines at at) (λ point. IsPartner log.now.block log.now.lines at point) }
+        ensures { FindsPartner log.now.block log.now.lines at result }
     {
-        let candidates = self.lasts.candidates(event);
-        if is_ahead(&candidates, clock) || self.alerts.suspects(&self.heads, event) {
+        if !self.lasts.are_known(event, clock) || self.alerts.suspects(&self.heads, event) {
             let later = Later {
                 size: log.block,
                 event: *event,
@@ -98,11 +84,12 @@ impl OrderCheck {
         requires few { length log.now.lines < 2 ^ 32 }
         requires log { IsCheckable log.now }
         requires line { IsNext log.now.lines at (hart_of line.now.what) line.now }
-        requires clock { IsClock (Into log.now.lines) (hart_of line.now.what) (records_before (hart_of line.now.what) log.now.lines at + 1) (time clock.now) }
+        requires clock { let h = hart_of line.now.what in let g = log.now.lines in
+            IsClock (Into g) h (records_before h g at + 1) (time clock.now) }
         requires heads { Tells self.now.heads log.now.lines at }
         requires lasts { HasLast self.now.lasts log.now.block log.now.lines at }
         requires alerts { IsWatched self.now.alerts log.now.lines at }
-        ensures { MatchOption result (IsClear log.now.block log.now.lines at at) (λ point. IsPartner log.now.block log.now.lines at point) }
+        ensures { FindsPartner log.now.block log.now.lines at result }
     {
         match line.what {
             Record::Event(event) => self.partner(log, at, &event, clock),
@@ -110,28 +97,35 @@ impl OrderCheck {
         }
     }
 
-    /// Takes the line at a position, the next one, and names the earliest event that conflicts with it and is not
-    /// ordered before it; then they are the first pair that is not ordered. After that, and without memory, nothing is
-    /// said of the check any more.
-    pub fn pass(&mut self, log: &Log, at: usize) -> Result<Option<UnorderedPair>, NoMemory>
+    /// Takes the next line, which is at this position of the log, and names the earliest event that conflicts with it
+    /// and is not ordered before it; then they are the first pair that is not ordered. After that, and without memory,
+    /// nothing is said of the check any more.
+    pub fn pass(
+        &mut self,
+        log: &Log,
+        at: usize,
+        line: &Line,
+    ) -> Result<Option<UnorderedPair>, NoMemory>
         requires at { at < length log.now.lines }
         requires few { length log.now.lines < 2 ^ 32 }
         requires log { IsCheckable log.now }
+        requires line { slice_get log.now.lines at ≡ Some line.now }
         requires checked { IsChecked self.old log.now at }
-        ensures { IfOk result (λ found. MatchOption found (IsChecked self.new log.now (at + 1)) (λ pair. NamesFirst log.now pair.earlier pair.later)) }
+        ensures { IfOk result (λ found. MatchOption found
+            (IsChecked self.new log.now (at + 1))
+            (λ pair. NamesFirst log.now pair.earlier pair.later)) }
     {
-        let line = log.lines.get(at);
         let hart = record_hart(&line.what);
-        let needs = self.heads.needs(&line, hart);
+        let needs = self.heads.needs(line, hart);
         let clock = self.clocks.next(hart, &needs)?;
         let number = clock.get(hart);
-        if let Some(earlier) = self.earlier(log, at, &line, &clock) {
+        if let Some(earlier) = self.earlier(log, at, line, &clock) {
             let later = Point { hart, number };
             return Ok(Some(UnorderedPair { earlier, later }));
         }
-        self.lasts.pass(&line, number)?;
-        self.alerts.pass(&self.heads, &line);
-        self.heads.pass(&line);
+        self.lasts.pass(line, number)?;
+        self.alerts.pass(&self.heads, line);
+        self.heads.pass(line);
         Ok(None)
     }
 }

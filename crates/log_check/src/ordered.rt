@@ -43,11 +43,13 @@ pub enum CheckRefused {
 fn first_unordered(alloc: Global, log: &Log) -> Result<Option<UnorderedPair>, NoMemory>
     requires log { IsRunLog log.now }
     requires few { length log.now.lines < 2 ^ 32 }
-    ensures { IfOk result (λ found. MatchOption found (IsOrdered log.now) (λ pair. NamesFirst log.now pair.earlier pair.later)) }
+    ensures { IfOk result (λ found. MatchOption found
+        (IsOrdered log.now)
+        (λ pair. NamesFirst log.now pair.earlier pair.later)) }
 {
     let mut check = OrderCheck::new(alloc, log.block)?;
     for at in 0..log.lines.len() {
-        let found = check.pass(log, at)?;
+        let found = check.pass(log, at, &log.lines.get(at))?;
         if found.is_some() {
             return Ok(found);
         }

@@ -11,7 +11,7 @@ ghost use Rattle.pl_event.specs.Records.{records_before};
 ghost use Rattle.pl_event.specs.Unordered.{IsUnordered, IsOrderedPair};
 ghost use Rattle.log_clocks.specs.Clocks.{time};
 ghost use Rattle.log_check.specs.Checked.{IsCheckable};
-ghost use Rattle.log_check.specs.inner.Partners.{IsClear, IsLater, IsPartner};
+ghost use Rattle.log_check.specs.inner.Partners.{FindsPartner, IsLater};
 
 use crate::conflicts::{meet_by_alert, share_block};
 use log_clocks::Clock;
@@ -31,10 +31,12 @@ impl Later {
         requires size { 0 < self.now.size }
         requires hart { event.now.hart < 8 }
         ensures yes { (harts : ℕ) (lines : List Line) (x at m : ℕ) →
-            IsLater harts lines at self.now.event m (time self.now.clock) → IsPair lines x at event.now number self.now.event m →
+            IsLater harts lines at self.now.event m (time self.now.clock) →
+            IsPair lines x at event.now number self.now.event m →
             IsTrue result → IsUnordered self.now.size lines event.now number self.now.event m }
         ensures no { (harts : ℕ) (lines : List Line) (x at m : ℕ) →
-            IsLater harts lines at self.now.event m (time self.now.clock) → IsPair lines x at event.now number self.now.event m →
+            IsLater harts lines at self.now.event m (time self.now.clock) →
+            IsPair lines x at event.now number self.now.event m →
             result ≡ false → ShareBlock (access_of self.now.size event.now.kind) (access_of self.now.size self.now.event.kind) →
             Path (Into lines) event.now.hart number self.now.event.hart m }
     {
@@ -49,7 +51,8 @@ impl Later {
         requires later { self.now.event.hart < 8 }
         requires room { slice_index now.now.records self.now.event.hart + 1 < 2 ^ 32 }
         ensures { (harts : ℕ) (lines : List Line) (x at n m : ℕ) →
-            IsLater harts lines at self.now.event m (time self.now.clock) → IsPair lines x at event.now n self.now.event m →
+            IsLater harts lines at self.now.event m (time self.now.clock) →
+            IsPair lines x at event.now n self.now.event m →
             Tells heads.now lines x → Tells now.now lines at →
             IsTrue result ↔ IsNoticed lines event.now n self.now.event m }
     {
@@ -68,11 +71,13 @@ impl Later {
         requires later { self.now.event.hart < 8 }
         requires room { slice_index now.now.records self.now.event.hart + 1 < 2 ^ 32 }
         ensures yes { (harts : ℕ) (lines : List Line) (x at m : ℕ) →
-            IsLater harts lines at self.now.event m (time self.now.clock) → IsPair lines x at event.now number self.now.event m →
+            IsLater harts lines at self.now.event m (time self.now.clock) →
+            IsPair lines x at event.now number self.now.event m →
             Tells heads.now lines x → Tells now.now lines at →
             IsTrue result → IsUnordered self.now.size lines event.now number self.now.event m }
         ensures no { (harts : ℕ) (lines : List Line) (x at m : ℕ) →
-            IsLater harts lines at self.now.event m (time self.now.clock) → IsPair lines x at event.now number self.now.event m →
+            IsLater harts lines at self.now.event m (time self.now.clock) →
+            IsPair lines x at event.now number self.now.event m →
             Tells heads.now lines x → Tells now.now lines at →
             result ≡ false → IsOrderedPair self.now.size lines event.now number self.now.event m }
     {
@@ -91,15 +96,18 @@ impl Later {
         requires room { slice_index now.now.records self.now.event.hart + 1 < 2 ^ 32 }
         ensures yes { (harts : ℕ) (lines : List Line) (x at m : ℕ) →
             IsLater harts lines at self.now.event m (time self.now.clock) → x < at →
-            IsNext lines x (hart_of line.now.what) line.now → number ≡ records_before (hart_of line.now.what) lines x + 1 →
+            IsNext lines x (hart_of line.now.what) line.now →
+            number ≡ records_before (hart_of line.now.what) lines x + 1 →
             Tells heads.now lines x → Tells now.now lines at → IsTrue result →
             (a : Event) × IsPair lines x at a number self.now.event m × (a.hart ≡ hart_of line.now.what)
             × IsUnordered self.now.size lines a number self.now.event m }
         ensures no { (harts : ℕ) (lines : List Line) (x at m : ℕ) →
             IsLater harts lines at self.now.event m (time self.now.clock) → x < at →
-            IsNext lines x (hart_of line.now.what) line.now → number ≡ records_before (hart_of line.now.what) lines x + 1 →
+            IsNext lines x (hart_of line.now.what) line.now →
+            number ≡ records_before (hart_of line.now.what) lines x + 1 →
             Tells heads.now lines x → Tells now.now lines at → result ≡ false →
-            (a : Event) (n : ℕ) → IsPair lines x at a n self.now.event m → IsOrderedPair self.now.size lines a n self.now.event m }
+            (a : Event) (n : ℕ) → IsPair lines x at a n self.now.event m →
+            IsOrderedPair self.now.size lines a n self.now.event m }
     {
         match line.what {
             Record::Event(event) => event.hart != self.event.hart
@@ -108,8 +116,8 @@ impl Later {
         }
     }
 
-    /// The earliest event that conflicts with this one, which is at a position of the log, and is not ordered before it.
-    /// `now` are the heads before the position.
+    /// The earliest event that conflicts with this one, which is at a position of the log, and is not ordered before
+    /// it. `now` are the heads before the position.
     pub(crate) fn earliest_partner(&self, log: &Log, at: usize, now: &Heads) -> Option<Point>
         requires at { at < length log.now.lines }
         requires few { length log.now.lines < 2 ^ 32 }
@@ -117,7 +125,7 @@ impl Later {
         requires size { self.now.size ≡ log.now.block }
         requires now { Tells now.now log.now.lines at }
         requires later { (m : ℕ) × IsLater log.now.harts log.now.lines at self.now.event m (time self.now.clock) }
-        ensures { MatchOption result (IsClear log.now.block log.now.lines at at) (λ point. IsPartner log.now.block log.now.lines at point) }
+        ensures { FindsPartner log.now.block log.now.lines at result }
     {
         let mut heads = Heads::new();
         let mut numbers = [0u32; 8];

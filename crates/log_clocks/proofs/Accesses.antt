@@ -226,6 +226,12 @@ module _ (lasts : LastAccesses) (size : ℕ) (g : List Line) (i m : ℕ) (has : 
         let n : records_before s.a.hart g s.i + 1 ≡ k = s.pair.first.1.number in
         (omega arith, omega arith)
 
+    pub all_known : (t : ℕ) → most ≤ t → (k : ℕ) → Candidate k → k ≤ t
+    all_known t le k s = let b = bounded k s in let l : k ≤ most = b.1 in omega arith
+
+    pub one_unknown : (t : ℕ) → t < most → ((k : ℕ) → Candidate k → k ≤ t) → ⊥
+    one_unknown t less all = let l : most ≤ t = all most (found store refl (omega arith)) in omega arith
+
     pub candidate : IsMost Candidate (some_number most)
     candidate = by most refl
       where

@@ -26,14 +26,18 @@ impl Clock {
         self.numbers[hart as usize]
     }
 
-    // The record comes after this one of a hart.
+    // The record comes after this one of a hart. Each number is written, since one that is written alone is slow to be
+    // copied with the others right after.
     #[inline]
     pub(crate) fn set(&mut self, hart: u8, number: u32)
         requires { hart < 8 }
         ensures here { time self.new hart ≡ number }
         ensures others { (u : ℕ) → (u ≡ hart → ⊥) → time self.new u ≡ time self.old u }
     {
-        self.numbers[hart as usize] = number;
+        for u in 0..8u8 {
+            let kept = self.numbers[u as usize];
+            self.numbers[u as usize] = if u == hart { number } else { kept };
+        }
     }
 
     // The record comes after another one, which has this clock.

@@ -27,7 +27,8 @@ impl Clocks {
 
     /// Of no record.
     pub fn new(alloc: Global) -> Result<Clocks, NoMemory>
-        ensures { IfOk result (λ clocks. (harts : ℕ) (lines : List Line) → IsFlow harts lines → HasClocks clocks lines 0) }
+        ensures { IfOk result (λ clocks. (harts : ℕ) (lines : List Line) → IsFlow harts lines →
+            HasClocks clocks lines 0) }
     {
         let mut slots = Vec::new(alloc);
         for _hart in 0..8u8 {
@@ -104,7 +105,8 @@ impl Clocks {
     // Keeps a clock, and tells where.
     fn keep(&mut self, clock: Clock) -> Result<u32, NoMemory>
         ensures slots { self.new.slots ≡ self.old.slots }
-        ensures kept { IfOk result (λ slot. (slot ≡ length self.old.kept.items) × (self.new.kept.items ≡ self.old.kept.items ++ clock ∷ [])) }
+        ensures kept { IfOk result (λ slot. (slot ≡ length self.old.kept.items)
+            × (self.new.kept.items ≡ self.old.kept.items ++ clock ∷ [])) }
     {
         let slot = self.kept.len();
         if slot >= u32::MAX as usize {

@@ -1,5 +1,5 @@
 //! The last load and the last store of each hart in each block.
-ghost use Rattle.std.specs.Prelude.{◌≡◌, ℕ, ◌+◌, ◌/◌, ◌<◌, ◌≤◌, List, length, Bool, IfOk, None, slice_index, slice_index_or, slice_set};
+ghost use Rattle.std.specs.Prelude.{◌≡◌, ℕ, ◌+◌, ◌/◌, ◌<◌, ◌≤◌, List, length, Bool, IfOk, IsTrue, None, false, slice_index, slice_index_or, slice_set};
 ghost use Rattle.pl_base.specs.declared.layout.TheConstants.{MEMORY_BYTES};
 ghost use Rattle.pl_event.specs.declared.log.Line.{Line};
 ghost use Rattle.pl_event.specs.Candidates.{Shares};
@@ -8,8 +8,10 @@ ghost use Rattle.pl_event.specs.Numbers.{hart_of};
 ghost use Rattle.pl_event.specs.Records.{IsEvent, IsRecord};
 ghost use Rattle.pl_event.specs.Runs.{IsBlockSize, IsSoundLine};
 ghost use Rattle.pl_event.specs.Valid.{IsValidEvent};
+ghost use Rattle.log_clocks.specs.Clocks.{time};
 ghost use Rattle.log_clocks.specs.inner.Rows.{in_row, row_at, zero_row, newest, some_number, IsIndexed};
 
+use crate::clock::Clock;
 use pl_base::NoMemory;
 use pl_base::layout::MEMORY_BYTES;
 use pl_event::{Arcs, Event, Kind, Line, Record};
@@ -20,6 +22,13 @@ use std::alloc::Global;
 pub struct Row {
     loads: [u32; 8],
     stores: [u32; 8],
+}
+
+// The number of a record, which is not 0.
+fn some_number(number: u32) -> Option<u32>
+    ensures { result ≡ some_number number }
+{
+    if number == 0 { None } else { Some(number) }
 }
 
 impl Row {
@@ -36,7 +45,8 @@ impl Row {
     fn set(&mut self, store: bool, hart: u8, number: u32)
         requires { hart < 8 }
         ensures here { in_row self.new store hart ≡ number }
-        ensures others { (other : Bool) (u : ℕ) → ((other ≡ store) × (u ≡ hart) → ⊥) → in_row self.new other u ≡ in_row self.old other u }
+        ensures others { (other : Bool) (u : ℕ) → ((other ≡ store) × (u ≡ hart) → ⊥) →
+            in_row self.new other u ≡ in_row self.old other u }
     {
         if store {
             self.stores[hart as usize] = number;
@@ -45,30 +55,45 @@ impl Row {
         }
     }
 
-    // The last access of a hart that a store conflicts with, or a load.
+    // The last access of a hart that a store conflicts with, or a load; 0 for none.
     #[inline]
-    fn newest(&self, store: bool, hart: u8) -> Option<u32>
+    fn newest(&self, store: bool, hart: u8) -> u32
         requires { hart < 8 }
-        ensures { result ≡ some_number (newest self.now store hart) }
+        ensures { result ≡ newest self.now store hart }
     {
         let stored = self.stores[hart as usize];
-        let number = if store {
+        if store {
             stored.max(self.loads[hart as usize])
         } else {
             stored
-        };
-        if number == 0 { None } else { Some(number) }
+        }
+    }
+
+    // Whether a clock knows the last access of each other hart that conflicts.
+    #[inline]
+    fn is_known(&self, store: bool, hart: u8, clock: &Clock) -> bool
+        ensures yes { IsTrue result → (u : ℕ) → u < 8 → (u ≡ hart → ⊥) → newest self.now store u ≤ time clock.now u }
+        ensures no { result ≡ false → (u : ℕ) × (u < 8) × (u ≡ hart → ⊥)
+            × (time clock.now u < newest self.now store u) }
+    {
+        for u in 0..8u8 {
+            if u != hart && self.newest(store, u) > clock.get(u) {
+                return false;
+            }
+        }
+        true
     }
 
     // For each other hart the last access that conflicts.
     fn conflicting(&self, store: bool, hart: u8) -> Arcs
         ensures own { slice_index_or result hart None ≡ None }
-        ensures others { (u : ℕ) → u < 8 → (u ≡ hart → ⊥) → slice_index_or result u None ≡ some_number (newest self.now store u) }
+        ensures others { (u : ℕ) → u < 8 → (u ≡ hart → ⊥) →
+            slice_index_or result u None ≡ some_number (newest self.now store u) }
     {
         let mut found = Arcs::none();
         for u in 0..8u8 {
             if u != hart {
-                found.set(u, self.newest(store, u));
+                found.set(u, some_number(self.newest(store, u)));
             }
         }
         found
@@ -87,7 +112,7 @@ pub struct LastAccesses {
 }
 
 impl LastAccesses {
-    ghost use Rattle.log_clocks.specs.LastAccesses.{last, HasLast};
+    ghost use Rattle.log_clocks.specs.LastAccesses.{last, HasLast, KnowsShared};
 
     /// Of no line, for blocks of 16 or 4 bytes.
     pub fn new(alloc: Global, size: u8) -> Result<LastAccesses, NoMemory>
@@ -145,7 +170,8 @@ impl LastAccesses {
         ensures size { self.new.size ≡ self.old.size }
         ensures within { IfOk result (λ slot. slot < length self.new.rows.items) }
         ensures own { IsIndexed self.old.index.items self.old.rows.items → IfOk result (λ slot.
-            IsIndexed self.new.index.items self.new.rows.items × (slice_index self.new.index.items block ≡ slot) × (1 ≤ slot)
+            IsIndexed self.new.index.items self.new.rows.items × (slice_index self.new.index.items block ≡ slot)
+            × (1 ≤ slot)
             × ((b : ℕ) → row_at self.new.index.items self.new.rows.items b ≡ row_at self.old.index.items self.old.rows.items b)) }
     {
         let slot = self.slot(block);
@@ -167,12 +193,11 @@ impl LastAccesses {
         ensures size { self.new.size ≡ self.old.size }
         ensures noted { IsIndexed self.old.index.items self.old.rows.items → IfOk result (λ _.
             IsIndexed self.new.index.items self.new.rows.items × (last self.new block store hart ≡ number)
-            × ((b : ℕ) (s : Bool) (u : ℕ) → ((b ≡ block) × (s ≡ store) × (u ≡ hart) → ⊥) → last self.new b s u ≡ last self.old b s u)) }
+            × ((b : ℕ) (s : Bool) (u : ℕ) → ((b ≡ block) × (s ≡ store) × (u ≡ hart) → ⊥) →
+            last self.new b s u ≡ last self.old b s u)) }
     {
         let slot = self.own_row(block)?;
-        let mut row = self.row_in(slot);
-        row.set(store, hart, number);
-        self.rows[slot] = row;
+        self.rows[slot].set(store, hart, number);
         Ok(())
     }
 
@@ -191,7 +216,8 @@ impl LastAccesses {
     pub fn pass(&mut self, line: &Line, number: u32) -> Result<(), NoMemory>
         requires { IsSoundLine 8 line.now }
         ensures { (size : ℕ) (lines : List Line) (i : ℕ) → HasLast self.old size lines i →
-            IsRecord lines i (hart_of line.now.what) number line.now → IfOk result (λ _. HasLast self.new size lines (i + 1)) }
+            IsRecord lines i (hart_of line.now.what) number line.now →
+            IfOk result (λ _. HasLast self.new size lines (i + 1)) }
     {
         match line.what {
             Record::Event(event) => self.take(&event, number),
@@ -224,7 +250,8 @@ impl LastAccesses {
     /// For each other hart its last record so far that conflicts with the next event by a block.
     pub fn candidates(&self, event: &Event) -> Arcs
         requires { IsValidEvent event.now 8 }
-        ensures { (size : ℕ) (lines : List Line) (i m : ℕ) → HasLast self.now size lines i → IsEvent lines i m event.now →
+        ensures { (size : ℕ) (lines : List Line) (i m : ℕ) → HasLast self.now size lines i →
+            IsEvent lines i m event.now →
             (u : ℕ) → u < 8 → IsMost (λ k. Shares size lines u k event.now.hart m) (slice_index_or result u None) }
     {
         match event.kind {
@@ -241,6 +268,35 @@ impl LastAccesses {
                 addr,
             } => self.row(self.block(addr)).conflicting(true, event.hart),
             _ => Arcs::none(),
+        }
+    }
+
+    /// Whether a clock knows each record of another hart so far that conflicts with the next event by a block.
+    pub fn are_known(&self, event: &Event, clock: &Clock) -> bool
+        requires { IsValidEvent event.now 8 }
+        ensures yes { (size : ℕ) (lines : List Line) (i m : ℕ) → HasLast self.now size lines i →
+            IsEvent lines i m event.now →
+            IsTrue result → KnowsShared size lines event.now m clock.now }
+        ensures no { (size : ℕ) (lines : List Line) (i m : ℕ) → HasLast self.now size lines i →
+            IsEvent lines i m event.now →
+            result ≡ false → KnowsShared size lines event.now m clock.now → ⊥ }
+    {
+        match event.kind {
+            Kind::Ld {
+                width: _,
+                rd: _,
+                rb: _,
+                addr,
+            } => self
+                .row(self.block(addr))
+                .is_known(false, event.hart, clock),
+            Kind::St {
+                width: _,
+                rv: _,
+                rb: _,
+                addr,
+            } => self.row(self.block(addr)).is_known(true, event.hart, clock),
+            _ => true,
         }
     }
 }

@@ -10,6 +10,8 @@
 mod clock;
 mod clocks;
 mod lasts;
+#[cfg(test)]
+mod tests;
 
 pub use clock::Clock;
 pub use clocks::Clocks;

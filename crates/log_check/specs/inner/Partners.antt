@@ -1,5 +1,5 @@
 -- The earliest event that conflicts with the one at a position and is not ordered before it.
-use Rattle.std.specs.Prelude.{◌≡◌, ℕ, ◌<◌, ◌≤◌, List}
+use Rattle.std.specs.Prelude.{◌≡◌, ℕ, ◌<◌, ◌≤◌, List, Option, MatchOption}
 use Rattle.pl_event.specs.declared.event.Event.{Event}
 use Rattle.pl_event.specs.declared.log.Line.{Line}
 use Rattle.pl_event.specs.declared.log.Point.{Point}
@@ -11,7 +11,8 @@ use Rattle.pl_event.specs.Unordered.{IsUnordered, IsOrderedPair}
 
 -- each event at a position below `upto` is ordered before the one at a position if they conflict
 abbrev pub IsClear : ℕ → List Line → ℕ → ℕ → Type 0
-IsClear size lines upto at = (k : ℕ) (a : Event) (n : ℕ) (b : Event) (m : ℕ) → k < upto → IsPair lines k at a n b m → IsOrderedPair size lines a n b m
+IsClear size lines upto at = (k : ℕ) (a : Event) (n : ℕ) (b : Event) (m : ℕ) → k < upto → IsPair lines k at a n b m →
+    IsOrderedPair size lines a n b m
 
 -- the point names the first event that is not ordered before the one at a position
 pub record IsPartner (size : ℕ) (lines : List Line) (at : ℕ) (point : Point) : Type 0 where
@@ -23,6 +24,10 @@ pub record IsPartner (size : ℕ) (lines : List Line) (at : ℕ) (point : Point)
   pub hart : a.hart ≡ point.hart
   pub unordered : IsUnordered size lines a point.number b m
   pub clear : IsClear size lines i at
+
+-- the first event that is not ordered before the one at a position, or none where each is
+abbrev pub FindsPartner : ℕ → List Line → ℕ → Option Point → Type 0
+FindsPartner size lines at found = MatchOption found (IsClear size lines at at) (λ point. IsPartner size lines at point)
 
 -- the event at a position, with its clock, in a log of at most eight harts
 pub record IsLater (harts : ℕ) (lines : List Line) (at : ℕ) (b : Event) (m : ℕ) (times : ℕ → ℕ) : Type 0 where

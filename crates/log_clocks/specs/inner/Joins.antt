@@ -5,4 +5,5 @@ use Rattle.std.specs.Prelude.{◌≡◌, ℕ, ◌<◌, ◌≤◌, ◌⊎◌, Lis
 pub record IsJoin (needs : List (Option ℕ)) (b : ℕ) (table : ℕ → ℕ → ℕ → ℕ) (start clock : ℕ → ℕ) : Type 0 where
   pub before : (u : ℕ) → start u ≤ clock u
   pub sources : (w k : ℕ) → w < b → slice_index_or needs w None ≡ Some k → (u : ℕ) → table w k u ≤ clock u
-  pub from : (u n : ℕ) → n ≤ clock u → (n ≤ start u) ⊎ ((w : ℕ) × (k : ℕ) × (w < b) × (slice_index_or needs w None ≡ Some k) × (n ≤ table w k u))
+  pub from : (u n : ℕ) → n ≤ clock u → (n ≤ start u) ⊎ ((w : ℕ) × (k : ℕ) × (w < b)
+      × (slice_index_or needs w None ≡ Some k) × (n ≤ table w k u))

@@ -1,8 +1,7 @@
-use Rattle.std.proofs.Common.{◌≡◌, true, false, sym, ◌∙◌}
-use Rattle.log_clocks.specs.Clocks.{time}
+use Rattle.std.proofs.Common.{◌≡◌, true, false, not, ap, sym, ◌∙◌}
 use Rattle.log_check.proofs.Clearing.{clear_of, path_of}
 use Rattle.log_check.proofs.Positions.{record_room}
-use Rattle.log_check.proofs.order_check.OrderCheck.partner.Goals.{then-is_ahead, else-is_ahead}
+use Rattle.log_check.proofs.order_check.OrderCheck.partner.Goals.{then-not-are_known, else-not-are_known}
 use Rattle.log_check.proofs.order_check.OrderCheck.partner.Goals as goal
 
 pub suspects-requires-clause-few : goal.suspects-requires-clause-few
@@ -13,11 +12,11 @@ returns-else-suspects c =
     let m = c.requires.event.0 in
     let is = c.requires.event.1 in
     let right = c.requires.event.2 in
-    elim c.if-is_ahead.branch [
-      | then-is_ahead w ↦ absurd (let f : true ≡ false = sym w.if-is_ahead.true ∙ (sym w.value-is ∙ c.if-suspects.false) in cc)
-      | else-is_ahead w ↦ clear_of c.args.log.now.block c.args.log.now.lines c.args.at m c.args.event.now is c.args.at (λ k a n low pair. record {
-        accesses = path_of c.args.log.now.block c.args.log.now.lines c.args.at m c.args.event.now is c.args.log.now.harts c.requires.log.flow c.requires.log.few (time c.args.clock.now) right c.candidates-candidates.result
-            (c.candidates-candidates.ensures c.args.log.now.block c.args.log.now.lines c.args.at m c.requires.lasts is) (c.is_ahead.ensures w.if-is_ahead.false) k a n pair;
+    elim c.if-not-are_known.branch [
+      | then-not-are_known w ↦ absurd (let f : true ≡ false = sym (ap not w.if-not-are_known.true) ∙ (sym w.value-is ∙ c.if-suspects.false) in cc)
+      | else-not-are_known w ↦ clear_of c.args.log.now.block c.args.log.now.lines c.args.at m c.args.event.now is c.args.at (λ k a n low pair. record {
+        accesses = path_of c.args.log.now.block c.args.log.now.lines c.args.at m c.args.event.now is c.args.log.now.harts c.requires.log.flow c.requires.log.few c.args.clock.now right
+            (c.are_known.ensures.yes c.args.log.now.block c.args.log.now.lines c.args.at m c.requires.lasts is w.if-not-are_known.false) k a n pair;
         alerts = w.suspects.ensures (sym w.value-is ∙ c.if-suspects.false) c.args.log.now.harts c.args.log.now.lines c.args.at m c.requires.log.flow c.requires.log.few c.requires.heads is c.requires.alerts k a n pair;
       })
     ]

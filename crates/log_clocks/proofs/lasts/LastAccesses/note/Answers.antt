@@ -1,4 +1,5 @@
 use Rattle.std.proofs.Common.{ℕ, slice_index_or, ap, sym, ◌∙◌}
+use Rattle.std.proofs.lemmas.List.{get_or_default}
 use mathlib.Core.Logic.{dite}
 use native.Mathlib.Decide.{ℕ_discrete}
 use Rattle.log_clocks.specs.declared.lasts.Row.{Row}
@@ -16,6 +17,6 @@ returns-clause-noted c has =
       λ b s u ne. dite (ℕ_discrete b c.args.block)
           (λ e. ap (λ (z : Row). in_row z s u) (ap (row_at mid.index.items _) e ∙ written_here mid.index.items mid.rows.items o.0 c.args.block c.in_ok-slot.slot o.1 o.2 low c.set.new.self)
           ∙ (c.set.ensures.others s u (λ t. ne (e, t.0, t.1))
-          ∙ ap (λ (z : Row). in_row z s u) (c.row_in-row.ensures ∙ (ap (λ (z : ℕ). slice_index_or mid.rows.items z zero_row) (sym o.1) ∙ (o.3 c.args.block ∙ ap (row_at c.args.self.now.index.items c.args.self.now.rows.items) (sym e))))))
+          ∙ ap (λ (z : Row). in_row z s u) ((c.index_mut.ensures.value ∙ get_or_default mid.rows.items c.in_ok-slot.slot c.index_mut.result.now zero_row low) ∙ (ap (λ (z : ℕ). slice_index_or mid.rows.items z zero_row) (sym o.1) ∙ (o.3 c.args.block ∙ ap (row_at c.args.self.now.index.items c.args.self.now.rows.items) (sym e))))))
           (λ nb. ap (λ (z : Row). in_row z s u) (written_other mid.index.items mid.rows.items o.0 c.args.block c.in_ok-slot.slot o.1 o.2 low c.set.new.self b nb ∙ o.3 b)),
     )

@@ -1,10 +1,10 @@
 -- Each event of a run is valid.
-use Rattle.std.proofs.Common.{◌≡◌, ◌≢◌, ◌==◌, ℕ, zero, suc, ◌+◌, ◌-◌, ◌/◌, ◌%◌, ◌^◌, ◌<◌, ◌≤◌, ◌&&◌, ◌||◌, inl, inr, Bool, true, false, List, [], ◌∷◌, ◌++◌, length, take, drop, find, min, Option, Some, None, IfSome, IsSome, slice_index, nat_le, nat_lt, unwrap_or, refl, arith, sym, subst}
+use Rattle.std.proofs.Common.{◌≡◌, ◌≢◌, ◌==◌, ℕ, zero, suc, ◌+◌, ◌-◌, ◌/◌, ◌%◌, ◌^◌, ◌<◌, ◌≤◌, ◌&&◌, inl, inr, Bool, true, false, List, [], ◌∷◌, length, take, drop, find, min, Option, Some, None, IfSome, IsSome, slice_index, nat_le, nat_lt, unwrap_or, refl, arith, sym, subst}
 use Rattle.std.proofs.lemmas.List.{length-take, length-set}
-use Rattle.std.proofs.lemmas.Bool.{cases_Bool, cases_eq, both_ways, and_parts, or_cases, eq-eqb, ne_eqb, eqb-true}
+use Rattle.std.proofs.lemmas.Bool.{cases_Bool, cases_eq, both_ways, and_parts, eq-eqb, ne_eqb, eqb-true}
 use Rattle.pl_base.specs.Pages.{is_among, EachPage, count_below}
 use Rattle.guest_mem.specs.Bytes.{AllMapped}
-use Rattle.pl_base.proofs.Pages.{among, not_among_before, not_among_past, place, count_failing, count_more, count_fewer}
+use Rattle.pl_base.proofs.Pages.{among, place, count_more, count_fewer}
 use Rattle.guest_kernel.specs.declared.call.CallArgs.{CallArgs}
 use Rattle.guest_kernel.specs.declared.call.KernelStep.{KernelStep}
 use Rattle.guest_kernel.specs.declared.call.KernelStep.TheVariants.{Ended, Went}
@@ -17,7 +17,6 @@ use Rattle.pl_base.specs.declared.widths.StoreWidth.{StoreWidth}
 use Rattle.pl_base.specs.declared.widths.StoreWidth.TheVariants as store
 use Rattle.pl_event.specs.declared.event.Kind.{Kind}
 use Rattle.pl_event.specs.declared.event.Kind.TheVariants.{Ld, St, Op, Mv, Im, Br, Jr, Al, Fr, Bf, Mp, Um, Rd, Wr, Ex, Ft}
-use Rattle.pl_event.specs.declared.log.PageRun.{PageRun}
 use Rattle.pl_event.specs.Valid.{IsByteRange, HasValidFields, IsValidEvent}
 use Rattle.rv_isa.specs.declared.instruction.Instr.{Instr}
 use Rattle.rv_isa.specs.declared.instruction.Instr.TheVariants as instrs
@@ -41,10 +40,11 @@ use Rattle.core_sim.specs.Harts.{is_live, live_from, live_harts, is_among_live}
 use Rattle.core_sim.specs.Runs.{IsFront, state_of_hart}
 use Rattle.core_sim.specs.Schedules.{items_of, first_live, listed_turn, next_turn, drawn, turn_of_step}
 use Rattle.core_sim.specs.Stands.{event_of, turn_after}
-use Rattle.pl_event.specs.OpeningPages.{is_in_runs}
-use Rattle.core_sim.specs.Start.{text_run, data_runs, heap_run, stack_run, start_runs}
+use Rattle.core_sim.specs.Start.{start_runs}
 use Rattle.core_sim.specs.Steps.{Act, word_at, called, call_args, CanLoad, CanStore, IsDone, IsFetched, IsStep}
 use Rattle.core_sim.specs.Valid.{IsValidJob}
+use Rattle.pl_event.proofs.OpeningPages.{count_runs, runs_inside}
+use Rattle.core_sim.proofs.Opening.{rises, few_pages}
 use Rattle.core_sim.proofs.Lives.{live_more, live_less, within_live}
 use Rattle.core_sim.proofs.Starts.{length_begin}
 use Rattle.core_sim.proofs.Ties.{shown_mapped, among_parts}
@@ -263,60 +263,10 @@ bounds_next s (Um page count) b tells = record {
   fit = b.fit;
 }
 
--- the pages of the start
-abbrev RunsBelow : List PageRun → Type 0
-RunsBelow [] = Unit {0}
-RunsBelow (run ∷ runs) = (run.first + run.count ≤ 4096) × RunsBelow runs
-
-abbrev total : List PageRun → ℕ
-total [] = 0
-total (run ∷ runs) = run.count + total runs
-
-runs_below : (runs : List PageRun) (page : ℕ) → RunsBelow runs → is_in_runs runs page ≡ true → page < 4096
-runs_below [] page below is = absurd (both_ways _ refl is)
-runs_below (run ∷ runs) page below is = elim (or_cases (is_among run.first run.count page) (is_in_runs runs page) is) [
-  | inl here ↦ omega (arith, (among_parts run.first run.count page here).1, below.0)
-  | inr there ↦ runs_below runs page below.1 there
-]
-
-count_either : (p q : ℕ → Bool) (n : ℕ) → count_below (λ k. p k || q k) n ≤ count_below p n + count_below q n
-unfolding count_below
-count_either p q zero = omega arith
-count_either p q (suc n) =
-    let before = count_either p q n in
-    elim (cases_Bool (p n)) [
-      | inl yes_p ↦ elim (cases_Bool (q n)) [ inl yes_q ↦ rw (yes_p, yes_q) (omega (arith, before)) | inr no_q ↦ rw (yes_p, no_q) (omega (arith, before)) ]
-      | inr no_p ↦ elim (cases_Bool (q n)) [ inl yes_q ↦ rw (no_p, yes_q) (omega (arith, before)) | inr no_q ↦ rw (no_p, no_q) (omega (arith, before)) ]
-    ]
-
-count_among : (first count n : ℕ) → count_below (is_among first count) n + min n first ≡ min n (first + count)
-unfolding count_below
-count_among first count zero = omega arith
-count_among first count (suc n) =
-    let before = count_among first count n in
-    elim (place first count n) [
-      | inl (from, within) ↦ rw (among first count n from within) (omega (arith, before, from, within))
-      | inr (inl early) ↦ rw (not_among_before first count n early) (omega (arith, before, early))
-      | inr (inr past) ↦ rw (not_among_past first count n past) (omega (arith, before, past))
-    ]
-
-count_runs : (runs : List PageRun) (n : ℕ) → count_below (is_in_runs runs) n ≤ total runs
-count_runs [] n = omega (arith, count_failing (is_in_runs []) n (λ k. refl))
-count_runs (run ∷ runs) n =
-    omega (arith, count_either (is_among run.first run.count) (is_in_runs runs) n, count_among run.first run.count n, count_runs runs n)
-
-start_below : (job : Job) → IsValidJob job → (bytes : List ℕ) → length bytes ≤ 262144 → RunsBelow ((text_run job.words ∷ data_runs bytes) ++ heap_run ∷ stack_run job.harts ∷ [])
-start_below job valid [] few = (omega (arith, valid.few_words), (omega arith, (omega (arith, valid.few_harts), tt)))
-start_below job valid (byte ∷ rest) few = (omega (arith, valid.few_words), (omega (arith, few), (omega arith, (omega (arith, valid.few_harts), tt))))
-
-start_total : (job : Job) → IsValidJob job → (bytes : List ℕ) → length bytes ≤ 262144 → total ((text_run job.words ∷ data_runs bytes) ++ heap_run ∷ stack_run job.harts ∷ []) ≤ 512
-start_total job valid [] few = omega (arith, valid.few_words, valid.few_harts)
-start_total job valid (byte ∷ rest) few = omega (arith, valid.few_words, valid.few_harts, few)
-
 bounds_of : (job : Job) (entries : List Entry) → IsValidJob job → IsFront job entries → Bounds (is_mapped job entries) (block_at entries)
 bounds_of job [] valid front = record {
-  pages = λ page is. runs_below (start_runs job) page (start_below job valid job.data_bytes valid.few_bytes) is;
-  few = omega (arith, count_runs (start_runs job) 4096, start_total job valid job.data_bytes valid.few_bytes);
+  pages = λ page is. runs_inside 0 (start_runs job) page (rises job valid) is;
+  few = omega (arith, count_runs 0 (start_runs job) (rises job valid), few_pages job valid);
   fit = λ addr len is. absurd (cc);
 }
 bounds_of job (e ∷ before) valid front =

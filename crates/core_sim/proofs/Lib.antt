@@ -4,6 +4,7 @@ mod Fitting
 mod Turning
 mod Stepping
 mod Starts
+mod Opening
 mod Roomy
 mod Doings
 mod Unique

@@ -1,14 +1,16 @@
 -- The pages of a valid job's start can be mapped.
-use Rattle.std.proofs.Common.{◌≡◌, ℕ, ◌+◌, ◌-◌, ◌*◌, ◌<◌, ◌≤◌, Bool, true, false, List, [], ◌∷◌, ◌++◌, length, drop, get_or, take, Option, refl, arith, sym, ap, ◌∙◌, subst}
+use Rattle.std.proofs.Common.{◌≡◌, ℕ, ◌+◌, ◌-◌, ◌*◌, ◌<◌, ◌≤◌, Bool, true, false, List, [], ◌∷◌, length, drop, get_or, take, Option, refl, arith, sym, ap, ◌∙◌, subst}
 use Rattle.pl_base.specs.Pages.{is_among, marked, count_below}
 use Rattle.guest_mem.specs.Image.{PageImage}
 use Rattle.guest_mem.specs.Memory.{mapped}
-use Rattle.pl_base.proofs.Pages.{not_among_past, count_failing, count_more}
+use Rattle.pl_base.proofs.Pages.{not_among_past, count_none, count_more}
 use Rattle.pl_event.specs.declared.log.PageRun.{PageRun}
+use Rattle.pl_event.specs.OpeningPages.{RiseFrom, pages_in}
 use Rattle.core_sim.specs.declared.job.Job.{Job}
 use Rattle.core_sim.specs.Mapping.{CanMapRun, CanMapRuns, MapsRun}
-use Rattle.core_sim.specs.Start.{pages_of, text_run, data_runs, heap_run, stack_run, start_runs}
+use Rattle.core_sim.specs.Start.{pages_of, text_run, start_runs}
 use Rattle.core_sim.specs.Valid.{IsValidJob}
+use Rattle.core_sim.proofs.Opening.{rises, few_pages}
 use Rattle.core_sim.proofs.Starts.{other_runs, run_at, runs_behind}
 
 -- the first of the runs that are left, and the others behind it
@@ -23,39 +25,21 @@ can_more before runs place run within can =
     let both : CanMapRuns before (get_or runs place run ∷ drop (place + 1) runs) = subst (CanMapRuns before) (run_at runs place run within) can in
     both.1
 
--- each run lies behind those before it
-abbrev Rises : ℕ → List PageRun → Type 0
-Rises past [] = Unit {0}
-Rises past (run ∷ runs) = (past ≤ run.first) × (run.first + run.count ≤ 4096) × Rises (run.first + run.count) runs
-
-abbrev total : List PageRun → ℕ
-total [] = 0
-total (run ∷ runs) = run.count + total runs
-
-can_rising : (before : ℕ → Bool) (past : ℕ) (runs : List PageRun) → ((page : ℕ) → past ≤ page → before page ≡ false) → Rises past runs → count_below before 4096 + total runs ≤ 512 → CanMapRuns before runs
+-- runs that rise can be mapped where they are few
+can_rising : (before : ℕ → Bool) (past : ℕ) (runs : List PageRun) → ((page : ℕ) → past ≤ page → before page ≡ false) → RiseFrom past runs → count_below before 4096 + pages_in runs ≤ 512 → CanMapRuns before runs
 can_rising before past [] none rises room = tt
 can_rising before past (run ∷ runs) none rises room =
-    let free : (page : ℕ) → run.first ≤ page → page < run.first + run.count → before page ≡ false = λ page from within. none page (omega (arith, rises.0)) in
+    let free : (page : ℕ) → run.first ≤ page → page < run.first + run.count → before page ≡ false = λ page from within. none page (omega (arith, rises.1)) in
     let counted = count_more before run.first run.count 4096 free in (
-      record { in_range = omega (arith, rises.1); free = free; room = omega (arith, room) },
+      record { in_range = omega (arith, rises.0.3); free = free; room = omega (arith, room) },
       can_rising (marked before run.first run.count true) (run.first + run.count) runs
-          (λ page from. (let over : is_among run.first run.count page ≡ false = not_among_past run.first run.count page from in rw over (none page (omega (arith, rises.0)))))
-          rises.2 (omega (arith, counted, room, rises.1)),
+          (λ page from. (let over : is_among run.first run.count page ≡ false = not_among_past run.first run.count page from in rw over (none page (omega (arith, rises.1)))))
+          rises.2 (omega (arith, counted, room, rises.0.3)),
     )
-
-rises_of : (job : Job) → IsValidJob job → (bytes : List ℕ) → length bytes ≤ 262144 → Rises 0 ((text_run job.words ∷ data_runs bytes) ++ heap_run ∷ stack_run job.harts ∷ [])
-rises_of job valid [] few = (omega arith, omega (arith, valid.few_words), (omega (arith, valid.few_words), omega arith, (omega arith, omega (arith, valid.few_harts), tt)))
-rises_of job valid (byte ∷ rest) few =
-    (omega arith, omega (arith, valid.few_words), (omega (arith, valid.few_words), omega (arith, few), (omega (arith, few), omega arith, (omega arith, omega (arith, valid.few_harts), tt))))
-
-total_of : (job : Job) → IsValidJob job → (bytes : List ℕ) → length bytes ≤ 262144 → total ((text_run job.words ∷ data_runs bytes) ++ heap_run ∷ stack_run job.harts ∷ []) ≤ 512
-total_of job valid [] few = omega (arith, valid.few_words, valid.few_harts)
-total_of job valid (byte ∷ rest) few = omega (arith, valid.few_words, valid.few_harts, few)
 
 can_start : (job : Job) → IsValidJob job → CanMapRuns (λ _. false) (start_runs job)
 can_start job valid =
-    can_rising (λ _. false) 0 (start_runs job) (λ page from. refl) (rises_of job valid job.data_bytes valid.few_bytes)
-    (omega (arith, count_failing (λ _. false) 4096 (λ k. refl), total_of job valid job.data_bytes valid.few_bytes))
+    can_rising (λ _. false) 0 (start_runs job) (λ page from. refl) (rises job valid) (omega (arith, count_none 4096, few_pages job valid))
 
 -- the first run, and behind it the others, as a list's parts
 pub can_text : (job : Job) (none : List (Option PageImage)) (runs : List PageRun) (run : PageRun) → IsValidJob job → mapped none ≡ (λ _. false) →

@@ -1,10 +1,11 @@
 //! What memory holds before the first step.
 ghost use Rattle.std.specs.Prelude.{◌≡◌, ◌/◌, ◌<◌, ◌≤◌, All, IfOk, OnOk};
 ghost use Rattle.guest_mem.specs.Memory.{mapped};
+ghost use Rattle.pl_event.specs.OpeningPages.{RiseFrom, pages_in};
 ghost use Rattle.core_sim.specs.Valid.{IsValidJob};
 ghost use Rattle.core_sim.specs.Start.{start_runs, pages_of, text_bytes};
 ghost use Rattle.core_sim.specs.Mapping.{IsStartMemory, CanMapRun, CanMapRuns, MapsRun, MapsRuns};
-ghost use Rattle.pl_base.specs.declared.layout.TheConstants.{MEMORY_BYTES, MAX_DATA_BYTES};
+ghost use Rattle.pl_base.specs.declared.layout.TheConstants.{MEMORY_BYTES, MAX_DATA_BYTES, MAX_MAPPED_PAGES};
 
 use crate::job::Job;
 use guest_mem::{MapFault, PagedMem};
@@ -22,7 +23,9 @@ use std::alloc::Global;
 /// `NoMemory` where none was left for the list.
 pub fn start_pages(alloc: Global, job: &Job) -> Result<Vec<PageRun>, NoMemory>
     requires { IsValidJob job.now }
-    ensures { IfOk result (λ runs. runs.items ≡ start_runs job.now) }
+    ensures runs { IfOk result (λ runs. runs.items ≡ start_runs job.now) }
+    ensures rising { IfOk result (λ runs. RiseFrom 0 runs.items) }
+    ensures few { IfOk result (λ runs. pages_in runs.items ≤ MAX_MAPPED_PAGES) }
 {
     let mut runs = Vec::with_capacity(alloc, 4)?;
     runs.push(PageRun {

@@ -15,7 +15,7 @@ items_of (schedule.Rr q) = []
 items_of (schedule.List items) = items
 items_of (schedule.Seed n q) = []
 
--- where a schedule stands before its first turn
+-- where a schedule is before its first turn
 abbrev pub first_place : Schedule → Place
 first_place (schedule.Rr q) = Around q 0
 first_place (schedule.List items) = Listed 0
@@ -29,11 +29,11 @@ no_turn schedule = record { hart = 0; left = 0; place = first_place schedule }
 abbrev pub first_live : ℕ → List ℕ → ℕ
 first_live from live = unwrap_or (find (λ hart. nat_le from hart) live) (slice_index live 0)
 
--- a turn of a round, in which the next turn goes to the first live hart behind this one
+-- a turn of a round, in which the next turn goes to the first live hart after this one
 abbrev pub round_turn : ℕ → ℕ → List ℕ → Turn
 round_turn q from live = record { hart = first_live from live; left = q; place = Around q (first_live from live + 1) }
 
--- the turn of the first item of a hart that is live, each other item being passed over; behind the list turns of one
+-- the turn of the first item of a hart that is live, each other item being passed over; after the list turns of one
 -- step go round from hart 0
 abbrev pub listed_turn : ℕ → List Item → List ℕ → Turn
 listed_turn at [] live = round_turn 1 0 live
@@ -47,7 +47,7 @@ drawn x = (x * 1664525 + 1013904223) % 2 ^ 32
 abbrev pub drawn_turn : ℕ → ℕ → List ℕ → Turn
 drawn_turn x q live = record { hart = slice_index live (x / 65536 % length live); left = q; place = Drawn x q }
 
--- the next turn, from where the schedule stands and which harts are live
+-- the next turn, from where the schedule is and which harts are live
 abbrev pub next_turn : List Item → Place → List ℕ → Turn
 next_turn items (Around q from) live = round_turn q from live
 next_turn items (Listed at) live = listed_turn at (drop at items) live

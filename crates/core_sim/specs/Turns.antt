@@ -24,7 +24,7 @@ abbrev pub round_hart : List ℕ → List ℕ → ℕ
 round_hart [] live = slice_index live 0
 round_hart (latest ∷ past) live = unwrap_or (find (λ hart. nat_lt latest hart) live) (slice_index live 0)
 
--- the items behind the first one of a hart
+-- the items after the first one of a hart
 abbrev pub behind_item : ℕ → List Item → List Item
 behind_item hart [] = []
 behind_item hart (item ∷ items) = if item.hart == hart then items else behind_item hart items
@@ -35,7 +35,7 @@ abbrev pub items_left : List Item → List ℕ → List Item
 items_left items [] = items
 items_left items (latest ∷ past) = behind_item latest (items_left items past)
 
--- the turns behind the list: those for whose hart no item was left
+-- the turns after the list: those for whose hart no item was left
 abbrev pub behind_list : List Item → List ℕ → List ℕ
 behind_list items [] = []
 behind_list items (latest ∷ past) = if list_any (λ item. item.hart == latest) (items_left items past) then [] else latest ∷ behind_list items past
@@ -44,7 +44,7 @@ behind_list items (latest ∷ past) = if list_any (λ item. item.hart == latest)
 abbrev pub next_item : List Item → List ℕ → List ℕ → Option Item
 next_item items past live = find (λ item. is_among_live live item.hart) (items_left items past)
 
--- the turn of that item; where there is none, one of one step, round and round over the turns behind the list
+-- the turn of that item; where there is none, one of one step, round and round over the turns after the list
 abbrev pub listed : Option Item → List ℕ → List ℕ → Turned
 listed (Some item) behind live = begun item.hart item.count
 listed None behind live = begun (round_hart behind live) 1
@@ -72,7 +72,7 @@ goes_on (turn ∷ before) live = nat_lt turn.taken turn.given && is_among_live l
 abbrev pub harts_of : List Turned → List ℕ
 harts_of turns = map (λ turn. turn.hart) turns
 
--- the turns, the one with which the next step is taken in front
+-- the turns, the one with which the next step is taken first
 abbrev pub with_current : Schedule → List Turned → List ℕ → List Turned
 with_current schedule turns live = if goes_on turns live then turns else next_begun schedule (harts_of turns) live ∷ turns
 

@@ -17,7 +17,7 @@ use pl_event::Kind;
 use rv_exec::{HartState, Wanted, advance, end_call, end_load, end_store};
 use rv_isa::Instr;
 
-/// Takes one step of a hart, and gives the kind of its event. After want of memory the kernel and the hart are as
+/// Takes one step of a hart, and gives the kind of its event. Where memory ran out the kernel and the hart are as
 /// before.
 #[inline]
 pub fn execute(text: &Text, kernel: &mut Kernel, hart: &mut Standing) -> Result<Kind, NoMemory>

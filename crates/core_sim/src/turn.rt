@@ -7,7 +7,7 @@ ghost use Rattle.pl_base.specs.declared.layout.TheConstants.{MAX_HARTS};
 use crate::hart::Standing;
 use crate::job::{Item, Schedule};
 
-/// Where a schedule stands between two turns.
+/// Where a schedule is between two turns.
 #[derive(Clone, Copy, Debug, PartialEq, Eq)]
 pub enum Place {
     /// Turns of `q` steps go round; the next one goes to the first live hart from `from` on, and else to the first.
@@ -18,7 +18,7 @@ pub enum Place {
     Drawn { x: u32, q: u32 },
 }
 
-/// A turn: its hart, how many steps are left of it, and where the schedule stands behind it.
+/// A turn: its hart, how many steps are left of it, and where the schedule is after it.
 #[derive(Clone, Copy, Debug, PartialEq, Eq)]
 pub struct Turn {
     pub hart: u8,
@@ -132,7 +132,7 @@ fn is_live_from(hart: &Standing, number: usize, from: u32) -> bool
     from as usize <= number && hart.end.is_live()
 }
 
-/// The turn of the first item of a live hart from place `at` of the list on, or the first turn behind the list.
+/// The turn of the first item of a live hart from place `at` of the list on, or the first turn after the list.
 fn listed(items: &[Item], at: usize, harts: &[Standing]) -> Option<Turn>
     requires { length harts.now ≤ MAX_HARTS }
     ensures { IsTurnOf harts.now (listed_turn at (drop at items.now) (live_harts harts.now)) result }

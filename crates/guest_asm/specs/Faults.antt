@@ -27,12 +27,12 @@ rank cause.Missing = 7
 rank cause.Label = 8
 rank cause.Far = 9
 
--- a line breaks the rule of a cause behind these lines; one that means nothing is out of form
+-- a line breaks the rule of a cause after these lines; one that means nothing is out of form
 abbrev pub Breaks : List Meaning → Option Meaning → JobCause → Type 0
 Breaks before None c = c ≡ cause.Form
 Breaks before (Some m) c = breaks (statements_of before) (place_of before) (is_again (labels_of before) m.label) m c ≡ true
 
--- the line of this number, counted from 1, breaks the rule of the cause behind the lines before it, which mean something
+-- the line of this number, counted from 1, breaks the rule of the cause after the lines before it, which mean something
 pub record LineBreaks (bytes : List ℕ) (line : ℕ) (c : JobCause) : Type 0 where
   pub before : List Meaning
   pub here : Option Meaning
@@ -41,7 +41,7 @@ pub record LineBreaks (bytes : List ℕ) (line : ℕ) (c : JobCause) : Type 0 wh
   pub counted : line ≡ length before + 1
   pub broken : Breaks before here c
 
--- the line behind the last, where something is missing
+-- the line after the last, where something is missing
 pub record EndLacks (bytes : List ℕ) (line : ℕ) (c : JobCause) : Type 0 where
   pub lines : List Meaning
   pub stands : meanings bytes ≡ map Some lines
@@ -76,7 +76,7 @@ pub record IsUndefined (labels : List (List ℕ × ℕ)) (m : Meaning) : Type 0 
   pub named : m.named ≡ Some name
   pub undefined : address_of labels name ≡ None
 
--- the jump or branch of a line, which stands at this address, does not reach the label that it names
+-- the jump or branch of a line, which is at this address, does not reach the label that it names
 pub record IsOutOfReach (labels : List (List ℕ × ℕ)) (at : ℕ) (m : Meaning) : Type 0 where
   pub statement : Statement
   pub reach : ℕ

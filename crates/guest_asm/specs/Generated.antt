@@ -69,7 +69,7 @@ abbrev pub action_numbered : ℕ → Action
 action_numbered number = get_or actions number Xor
 
 -- how far into data, and how far from the beginning of the hart's block, the word lies that an action names: data has
--- 64 words, and the block 16, so that the last four lie behind it
+-- 64 words, and the block 16, so that the last four lie after it
 abbrev pub into_data : ℕ → ℕ
 into_data k = 4 * k
 
@@ -103,14 +103,14 @@ finish = set_to a7 (pos 1) ∷ instr.Ecall ∷ []
 abbrev pub hart_code : ℕ → ℕ → List Instr
 hart_code x z = setup ++ flat_map (action_at x) (range_with_len 0 z) ++ finish
 
--- the code of the first harts; a hart's draws come behind two for each action of the harts before it
+-- the code of the first harts; a hart's draws come after two for each action of the harts before it
 abbrev pub code_of_first : ℕ → ℕ → ℕ → List Instr
 code_of_first s z harts = flat_map (λ hart. hart_code (drawn_after s (2 * z * hart)) z) (range_with_len 0 harts)
 
 abbrev pub program : ℕ → ℕ → List Instr
 program s z = code_of_first s z 4
 
--- a hart begins behind the code of the harts before it
+-- a hart begins after the code of the harts before it
 abbrev pub entry : ℕ → ℕ → ℕ → ℕ
 entry s z hart = TEXT_START + 4 * length (code_of_first s z hart)
 

@@ -39,7 +39,7 @@ abbrev pub ◌>>=◌ : {A B E : Type 0} → Result A E → (A → Result B E) �
 abbrev pub fault_at : ℕ → JobCause → JobFault
 fault_at line c = record { line = line; cause = c }
 
--- a line in the grammar that breaks no rule behind these lines
+-- a line in the grammar that breaks no rule after these lines
 abbrev pub unless_broken : Meaning → Option JobCause → Result Meaning JobCause
 unless_broken m None = Ok m
 unless_broken m (Some c) = Err c
@@ -51,7 +51,7 @@ judged_meaning before (Some m) = unless_broken m (broken before m)
 abbrev pub judged : List Meaning → List ℕ → Result Meaning JobCause
 judged before text = judged_meaning before (line_of text)
 
--- a fault of the line behind these
+-- a fault of the line after these
 abbrev pub behind : {A : Type 0} → List Meaning → Result A JobCause → Result A JobFault
 behind before (Ok x) = Ok x
 behind before (Err c) = Err (fault_at (length before + 1) c)
@@ -59,7 +59,7 @@ behind before (Err c) = Err (fault_at (length before + 1) c)
 abbrev pub complete : List Meaning → Result (List Meaning) JobCause
 complete before = if lacks (statements_of before) (place_of before).words then Err cause.Missing else Ok before
 
--- the first pass: what the lines mean, or the first line with a fault; the end is the line behind the last
+-- the first pass: what the lines mean, or the first line with a fault; the end is the line after the last
 abbrev pub first_pass : List Meaning → List (List ℕ) → Result (List Meaning) JobFault
 first_pass before [] = behind before (complete before)
 first_pass before (text ∷ texts) = behind before (judged before text) >>= λ m. first_pass (before ++ m ∷ []) texts
@@ -80,7 +80,7 @@ abbrev pub row_with : ℕ → Place → Option (List ℕ) → Option Statement �
 row_with line place named None = []
 row_with line place named (Some s) = record { line = line; at = text_address place; section = place.section; statement = s; named = named } ∷ []
 
--- the statements of lines where they stand
+-- the statements of lines in their places
 abbrev pub rows_from : ℕ → Place → List Meaning → List Placed
 rows_from line place [] = []
 rows_from line place (m ∷ lines) = row_with line place m.named m.statement ++ rows_from (line + 1) (after place m) lines

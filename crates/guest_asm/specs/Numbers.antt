@@ -1,4 +1,4 @@
--- The numbers of a job: decimal with an optional `-`, or hexadecimal behind `0x`, from -2^31 to 2^32 - 1.
+-- The numbers of a job: decimal with an optional `-`, or hexadecimal after `0x`, from -2^31 to 2^32 - 1.
 use Rattle.std.specs.Prelude.{ℕ, ◌+◌, ◌-◌, ◌*◌, ◌^◌, Bool, true, false, not, ◌==◌, ◌&&◌, nat_lt, nat_le, nat_eq, List, length, slice_index, drop, fold, codes, Option, Some, None, option_and_then, if◌then◌else◌}
 use Rattle.std.specs.List.{list_all, starts_with}
 use Rattle.std.specs.Option.{option_map}

@@ -171,7 +171,7 @@ after_optional place (Some s) = after_statement place s
 abbrev pub after : Place → Meaning → Place
 after place m = after_optional place m.statement
 
--- what stands before the line behind these
+-- the place before the line that follows these
 abbrev pub place_of : List Meaning → Place
 place_of before = fold after start before
 
@@ -210,7 +210,7 @@ on_statement test (Some s) = test s
 abbrev pub has_stray_label : Place → Meaning → Bool
 has_stray_label place m = is_some m.label && is_none place.section
 
--- whether a line breaks a rule behind these statements at this place; `again` says that its label is defined already
+-- whether a line breaks a rule after these statements at this place; `again` says that its label is defined already
 abbrev pub breaks : List Statement → Place → Bool → Meaning → JobCause → Bool
 breaks before place again m cause.Harts = on_statement (breaks_harts before) m.statement
 breaks before place again m cause.Twice = again || on_statement (repeats before) m.statement
@@ -227,7 +227,7 @@ breaks before place again m cause.Far = false
 unfoldable pub broken_at : List Statement → Place → Bool → Meaning → Option JobCause
 broken_at before place again m = find (breaks before place again m) (cause.Harts ∷ cause.Twice ∷ cause.Range ∷ cause.Section ∷ cause.Align ∷ cause.Full ∷ [])
 
--- the first rule that a line breaks behind the lines before it
+-- the first rule that a line breaks after the lines before it
 abbrev pub broken : List Meaning → Meaning → Option JobCause
 broken before m = broken_at (statements_of before) (place_of before) (is_again (labels_of before) m.label) m
 

@@ -1,4 +1,4 @@
--- What the first pass keeps of the lines behind which it stands.
+-- What the first pass keeps of the lines that it has read.
 use Rattle.std.specs.Prelude.{◌≡◌, ℕ, ◌≤◌, List, map, All}
 use Rattle.std.specs.Borrow.{Bor}
 use Rattle.indexmap.specs.IndexMap.{IndexMap}

@@ -72,7 +72,7 @@ schedule_of (first ∷ others) =
     else (if bytes_eq kind (codes "rr") then round_robin rest
     else (if bytes_eq kind (codes "seed") then seed rest else None)))
 
--- the byte of the two hex digits at the front, and what stands behind them
+-- the byte of the two hex digits at the beginning, and what follows them
 unfoldable pub pair_at : List ℕ → Option (ℕ × List ℕ)
 pair_at (a ∷ b ∷ rest) = option_map (λ byte. (byte, rest)) (digits_of 16 (a ∷ b ∷ []))
 pair_at _ = None

@@ -6,7 +6,7 @@ use Rattle.std.specs.List.{list_all, before_first, after_first, slice_split, ont
 abbrev pub is_blank : ℕ → Bool
 is_blank b = b == 32 || b == 9
 
--- what may stand in a line: a tab, and what can be printed
+-- what may be in a line: a tab, and what can be printed
 abbrev pub is_legal : ℕ → Bool
 is_legal b = b == 9 || (nat_le 32 b && nat_le b 126)
 
@@ -19,7 +19,7 @@ is_colon b = b == 58
 abbrev pub is_hash : ℕ → Bool
 is_hash b = b == 35
 
--- the text behind the blanks at its front
+-- the text after the blanks at its beginning
 abbrev pub skip_blanks : List ℕ → List ℕ
 skip_blanks [] = []
 skip_blanks (b ∷ bs) = if is_blank b then skip_blanks bs else b ∷ bs

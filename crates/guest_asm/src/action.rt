@@ -47,9 +47,9 @@ pub enum Action {
     LoadByte,
     /// Adds `t1` to `t0`.
     Add,
-    /// Stores `t1` to a word of the hart's block or behind it.
+    /// Stores `t1` to a word of the hart's block or after it.
     StoreBlock,
-    /// Loads a word of the hart's block, or of what lies behind it, into `t2`.
+    /// Loads a word of the hart's block, or of what lies after it, into `t2`.
     LoadBlock,
     /// Reads four bytes of the input into a word of data.
     Read,
@@ -132,7 +132,7 @@ fn into_data(k: u32) -> i32
     (4 * k) as i32
 }
 
-/// How many bytes behind the beginning of a hart's block a drawn word lies, inside it or behind it.
+/// How many bytes after the beginning of a hart's block a drawn word lies, inside it or after it.
 fn into_block(k: u32) -> i32
     ensures { result ≡ pos (into_block k) }
 {

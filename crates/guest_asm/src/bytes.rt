@@ -21,7 +21,7 @@ pub fn is_blank(byte: u8) -> bool
     byte == b' ' || byte == b'\t'
 }
 
-/// Whether every byte may stand in a line.
+/// Whether every byte may be in a line.
 pub fn are_legal(line: &[u8]) -> bool
     ensures { result ≡ list_all is_legal line.now }
 {
@@ -36,7 +36,7 @@ fn are_blank(text: &[u8]) -> bool
     text.iter().all(|byte| is_blank(*byte))
 }
 
-/// The text behind the blanks at its front.
+/// The text after the blanks at its beginning.
 pub fn skip_blanks(text: &[u8]) -> &[u8]
     ensures { result.now ≡ skip_blanks text.now }
 {
@@ -84,7 +84,7 @@ fn byte_at(text: &[u8], cut: u8) -> usize
     }
 }
 
-/// What stands before a place, and what stands behind the byte there.
+/// What is before a place, and what is after the byte there.
 fn around(text: &[u8], at: usize) -> (&[u8], &[u8])
     requires { at ≤ length text.now }
     ensures before { result.0.now ≡ take at text.now }
@@ -97,7 +97,7 @@ fn around(text: &[u8], at: usize) -> (&[u8], &[u8])
     }
 }
 
-/// What stands before the first blank, and what stands behind it.
+/// What is before the first blank, and what is after it.
 pub fn cut_at_blank(text: &[u8]) -> (&[u8], &[u8])
     ensures before { result.0.now ≡ before_first is_blank text.now }
     ensures after { result.1.now ≡ after_first is_blank text.now }
@@ -105,7 +105,7 @@ pub fn cut_at_blank(text: &[u8]) -> (&[u8], &[u8])
     around(text, blank_at(text))
 }
 
-/// What stands before the first of a byte, and what stands behind it.
+/// What is before the first of a byte, and what is after it.
 pub fn cut_at(text: &[u8], cut: u8) -> (&[u8], &[u8])
     ensures before { result.0.now ≡ before_first (λ b. b == cut) text.now }
     ensures after { result.1.now ≡ after_first (λ b. b == cut) text.now }

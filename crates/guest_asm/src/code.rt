@@ -22,7 +22,7 @@ use rv_isa::{BranchOp, ImmOp, Instr, RegOp};
 pub enum Code {
     /// One instruction.
     One(Instr),
-    /// Two instructions, one behind the other: `lui` and `addi` of a number.
+    /// Two instructions, one after the other: `lui` and `addi` of a number.
     Two(Instr, Instr),
     /// `jal` to the label.
     Jump { rd: u8 },

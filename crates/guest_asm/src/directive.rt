@@ -136,7 +136,7 @@ fn schedule_of(alloc: Global, parts: &[&[u8]]) -> Result<Option<Statement>, Allo
     Ok(None)
 }
 
-/// The byte of the two hex digits at the front, and what stands behind them.
+/// The byte of the two hex digits at the beginning, and what follows them.
 #[tactic(auto, unfolding(crate::specs::Statements::pair_at))]
 fn pair_at(text: &[u8]) -> Option<(u8, &[u8])>
     ensures { option_map (λ r. (r.0, r.1.now)) result ≡ pair_at text.now }

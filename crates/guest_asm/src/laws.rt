@@ -13,7 +13,7 @@ pub fn one_fault()
     ensures one { (bytes : List ℕ) (a b : JobFault) → HasFault bytes a → HasFault bytes b → a ≡ b }
 {}
 
-/// The eight digits of a word in a listing are its hex digits behind as many zeros as they are short of eight.
+/// The eight digits of a word in a listing are its hex digits after as many zeros as they are short of eight.
 pub fn eight_digits()
     ensures { (word : ℕ) → eight_digits word ≡ zeros_and_digits word }
 {}

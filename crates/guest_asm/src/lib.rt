@@ -1,7 +1,7 @@
 //! The text of a job: a guest in assembler text, with what it is run on, the listing of its words, and jobs that are
 //! drawn from numbers.
 //!
-//! A line means an optional label and an optional statement, whatever stands before it. The first pass reads the lines
+//! A line means an optional label and an optional statement, whatever comes before it. The first pass reads the lines
 //! one by one, tries the rules against the lines before, and keeps each statement with its place and each label with
 //! its address. The second pass puts the addresses into the words.
 #![tactic(auto)]

@@ -1,4 +1,4 @@
-//! Which statements may stand where.
+//! Which statements may be where.
 ghost use Rattle.std.specs.Prelude.{◌≡◌, ◌*◌, ◌<◌, ◌^◌, length, if◌then◌else◌};
 ghost use Rattle.std.specs.List.{list_any};
 ghost use Rattle.guest_asm.specs.Lines.{shown};
@@ -303,7 +303,7 @@ fn has_stray_label(place: Place, line: &Line<'_>) -> bool
     line.label.is_some() && place.section.is_none()
 }
 
-/// The first rule that a line breaks behind these statements; `again` says that its label is defined already.
+/// The first rule that a line breaks after these statements; `again` says that its label is defined already.
 #[tactic(auto, unfolding(crate::specs::Rules::broken_at))]
 pub fn broken_at(rows: &[Row<'_>], place: Place, again: bool, line: &Line<'_>) -> Option<JobCause>
     ensures { result ≡ broken_at (statements_in rows.now) place again (shown line.now) }
@@ -329,7 +329,7 @@ pub fn broken_at(rows: &[Row<'_>], place: Place, again: bool, line: &Line<'_>) -
     None
 }
 
-/// Whether a job lacks something behind all of its lines.
+/// Whether a job lacks something after all of its lines.
 pub fn is_incomplete(rows: &[Row<'_>], place: Place) -> bool
     ensures { result ≡ lacks (statements_in rows.now) place.words }
 {

@@ -25,7 +25,7 @@ pub enum Section {
     Data,
 }
 
-/// What stands before a line: the section in force, and how many words of text and bytes of data there are.
+/// What comes before a line: the section in force, and how many words of text and bytes of data there are.
 #[derive(Clone, Copy)]
 pub struct Place {
     pub section: Option<Section>,
@@ -75,7 +75,7 @@ fn section_after(section: Option<Section>, statement: &Statement) -> Option<Sect
     }
 }
 
-/// What stands behind a statement.
+/// What comes after a statement.
 fn after_statement(place: Place, statement: &Statement) -> Place
     requires { overfills place statement.now ≡ false }
     ensures { result ≡ after_statement place statement.now }
@@ -152,7 +152,7 @@ fn push_row<'a>(
     Ok(())
 }
 
-/// What stands behind a line.
+/// What comes after a line.
 fn after_line(place: Place, statement: &Option<Statement>) -> Place
     requires fits { on_statement (overfills place) statement.now ≡ false }
     requires words { place.words ≤ MAX_TEXT_WORDS }
@@ -183,7 +183,7 @@ impl<'a> Scan<'a> {
         }
     }
 
-    /// The first rule that a line breaks behind those so far.
+    /// The first rule that a line breaks after those so far.
     fn broken(&self, line: &Line<'a>) -> Option<JobCause>
         ensures { (before : List Meaning) → Keeps before self.now → result ≡ broken before (shown line.now) }
     {

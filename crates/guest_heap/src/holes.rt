@@ -11,7 +11,7 @@ pub struct Hole {
     pub end: u32,
 }
 
-/// Takes so many units, at least one, from the front of the first hole that has them; says where they start.
+/// Takes so many units, at least one, from the beginning of the first hole that has them; says where they start.
 pub fn take(holes: &mut Vec<Hole>, need: u32) -> Option<u32>
     requires apart { IsApart 0 holes.old.items }
     requires some { 0 < need }

@@ -8,7 +8,7 @@ pub record HoldsAt (memory : List (Option PageImage)) (addr count : ℕ) (list :
   pub long : length list ≡ count
   pub each : (k : ℕ) → k < count → bytes memory (addr + k) ≡ Some (slice_index list k)
 
--- the bytes from an address on, all of them mapped, stand behind a list
+-- the bytes from an address on, all of them mapped, follow a list
 pub record Appends (memory : List (Option PageImage)) (addr count : ℕ) (old new : List ℕ) : Type 0 where
   pub moved : List ℕ
   pub held : HoldsAt memory addr count moved

@@ -93,7 +93,7 @@ impl PagedMem {
         Ok(())
     }
 
-    /// Unmaps `count` pages from `page` on and gives their memory back.
+    /// Unmaps `count` pages from `page` on and frees their memory.
     ///
     /// # Errors
     ///

@@ -1,5 +1,6 @@
 pub mod Valid
 pub mod Harts
+pub mod Draws
 pub mod Schedules
 pub mod Turns
 pub mod Start
@@ -7,6 +8,7 @@ pub mod Events
 pub mod Steps
 pub mod Entries
 pub mod Runs
+pub mod RunEvents
 pub mod Mapping
 pub mod Doing
 pub mod Image

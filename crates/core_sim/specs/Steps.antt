@@ -1,11 +1,12 @@
 -- One step of a live hart: an instruction with all its effects, a call of the kernel, or a fault.
-use Rattle.std.specs.Prelude.{◌≡◌, ◌≢◌, ◌==◌, ℕ, ◌+◌, ◌-◌, ◌/◌, ◌%◌, ◌<◌, ◌≤◌, ◌⊎◌, ◌&&◌, false, nat_le, if◌then◌else◌, List, [], ◌++◌, Option, Some, None, take, drop, slice_get}
+use Rattle.std.specs.Prelude.{◌≡◌, ◌≢◌, ◌==◌, ℕ, ◌+◌, ◌-◌, ◌/◌, ◌%◌, ◌<◌, ◌≤◌, ◌⊎◌, ◌&&◌, false, nat_le, if◌then◌else◌, List, [], ◌++◌, Option, Some, None, option_and_then, take, drop, slice_get}
 use Rattle.std.specs.Int.{to_le_bytes, w32}
 use Rattle.pl_base.specs.declared.widths.FaultCause.{FaultCause}
 use Rattle.pl_base.specs.declared.widths.FaultCause.TheVariants.{Pc, Illegal, Align, Unmapped, ReadOnly}
 use Rattle.pl_base.specs.Widths.{load_bytes, store_bytes}
 use Rattle.pl_event.specs.declared.event.Kind.{Kind}
 use Rattle.pl_event.specs.declared.event.Kind.TheVariants.{Ld, St, Ex, Ft, Rd, Wr}
+use Rattle.rv_isa.specs.declared.instruction.Instr.{Instr}
 use Rattle.rv_isa.specs.declared.instruction.Instr.TheVariants as instrs
 use Rattle.rv_isa.specs.Table.{instruction_of}
 use Rattle.rv_exec.specs.declared.effect.Effect.{Effect}
@@ -41,6 +42,10 @@ faulted h cause addr = record { kind = Ft cause addr; stored = []; sent = []; ne
 -- the word of text that an address names
 abbrev pub word_at : List ℕ → ℕ → Option ℕ
 word_at words pc = if (pc % 4 == 0) && nat_le TEXT_START pc then slice_get words ((pc - TEXT_START) / 4) else None
+
+-- the instruction that an address names, where it names a word that is one
+abbrev pub instr_at : List ℕ → ℕ → Option Instr
+instr_at words pc = option_and_then instruction_of (word_at words pc)
 
 -- none of so many bytes is text
 abbrev pub NoText : State → ℕ → ℕ → Type 0

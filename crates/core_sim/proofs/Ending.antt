@@ -1,5 +1,5 @@
 -- A step after which its hart is live has an event that ends no hart.
-use Rattle.std.proofs.Common.{◌≡◌, ◌==◌, ℕ, ◌&&◌, inl, inr, true, false, List, length, min, Option, Some, None, refl, sym, subst}
+use Rattle.std.proofs.Common.{◌≡◌, ◌==◌, ℕ, ◌&&◌, inl, inr, true, false, List, length, min, Option, Some, None, IfSome, refl, sym, subst}
 use Rattle.std.proofs.lemmas.Bool.{cases_Bool, both_ways}
 use Rattle.guest_kernel.specs.declared.call.CallArgs.{CallArgs}
 use Rattle.guest_kernel.specs.declared.call.KernelStep.{KernelStep}
@@ -28,21 +28,21 @@ abbrev GoesStep : KernelStep → Type 0
 GoesStep (Ended code) = Unit {0}
 GoesStep (Went a0 kind) = ends_hart kind ≡ false
 
-goes_plain : (instr : Instr) → ends_hart (kind_of instr) ≡ false
+goes_plain : (instr : Instr) → IfSome (kind_of instr) (λ kind. ends_hart kind ≡ false)
 goes_plain (instrs.Lui rd imm) = refl
 goes_plain (instrs.Auipc rd imm) = refl
 goes_plain (instrs.Jal rd off) = refl
 goes_plain (instrs.Jalr rd rs1 imm) = refl
 goes_plain (instrs.Branch op rs1 rs2 off) = refl
-goes_plain (instrs.Load width rd rs1 imm) = refl
-goes_plain (instrs.Store width rs2 rs1 imm) = refl
+goes_plain (instrs.Load width rd rs1 imm) = tt
+goes_plain (instrs.Store width rs2 rs1 imm) = tt
 goes_plain (instrs.OpImm op rd rs1 imm) = elim (cases_Bool (rs1 == 0)) [
   | inl holds ↦ rw holds refl
   | inr fails ↦ elim (cases_Bool (is_copy op imm)) [ inl copy ↦ rw (fails, copy) refl | inr other ↦ rw (fails, other) refl ]
 ]
 goes_plain (instrs.Op op rd rs1 rs2) = elim (cases_Bool (cancels op && (rs1 == rs2))) [ inl holds ↦ rw holds refl | inr fails ↦ rw fails refl ]
 goes_plain (instrs.Fence bits) = refl
-goes_plain instrs.Ecall = refl
+goes_plain instrs.Ecall = tt
 
 goes_moved : (count : ℕ) (kind : Kind) → ends_hart kind ≡ false → GoesStep (moved count kind)
 goes_moved count kind goes = elim (cases_Bool (count == 0)) [ inl none ↦ rw none refl | inr some ↦ rw some goes ]
@@ -72,7 +72,7 @@ goes_called s h (Ended code) goes = λ live. absurd (both_ways _ refl live)
 goes_called s h (Went a0 kind) goes = λ live. goes
 
 goes_done : (s : State) (h : Hart) (effect : Effect) (act : Act) → IsDone s h effect act → Goes act
-goes_done s h (effects.Plain instr next) act done = subst Goes (sym done) (λ live. goes_plain instr)
+goes_done s h (effects.Plain instr next) act done = subst Goes (sym done.act_is) (λ live. subst (λ (o : Option Kind). IfSome o (λ kind. ends_hart kind ≡ false)) done.row (goes_plain instr))
 goes_done s h (effects.Load (instrs.Load width rd rs1 imm) addr) act done = elim done [
   | inl (can, is) ↦ subst Goes (sym is) (λ live. refl)
   | inr fault ↦ subst Goes (sym fault.act_is) (λ live. absurd (both_ways _ refl live))

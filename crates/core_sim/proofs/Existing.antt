@@ -229,14 +229,14 @@ stores_done s h addr width act = elim (cases_eq (addr % width) 0) [
 ]
 
 does : (s : State) (h : Hart) → BlocksBelow s.blocks → (i : Instr) → Done s h (Some i)
-does s h below (instrs.Lui rd imm) = record { act = _; done = refl }
-does s h below (instrs.Auipc rd imm) = record { act = _; done = refl }
-does s h below (instrs.Jal rd off) = record { act = _; done = refl }
-does s h below (instrs.Jalr rd rs1 imm) = record { act = _; done = refl }
-does s h below (instrs.Branch op rs1 rs2 off) = record { act = _; done = refl }
-does s h below (instrs.OpImm op rd rs1 imm) = record { act = _; done = refl }
-does s h below (instrs.Op op rd rs1 rs2) = record { act = _; done = refl }
-does s h below (instrs.Fence bits) = record { act = _; done = refl }
+does s h below (instrs.Lui rd imm) = record { act = _; done = record { kind = _; row = refl; act_is = refl } }
+does s h below (instrs.Auipc rd imm) = record { act = _; done = record { kind = _; row = refl; act_is = refl } }
+does s h below (instrs.Jal rd off) = record { act = _; done = record { kind = _; row = refl; act_is = refl } }
+does s h below (instrs.Jalr rd rs1 imm) = record { act = _; done = record { kind = _; row = refl; act_is = refl } }
+does s h below (instrs.Branch op rs1 rs2 off) = record { act = _; done = record { kind = _; row = refl; act_is = refl } }
+does s h below (instrs.OpImm op rd rs1 imm) = record { act = _; done = record { kind = _; row = refl; act_is = refl } }
+does s h below (instrs.Op op rd rs1 rs2) = record { act = _; done = record { kind = _; row = refl; act_is = refl } }
+does s h below (instrs.Fence bits) = record { act = _; done = record { kind = _; row = refl; act_is = refl } }
 does s h below (instrs.Load width rd rs1 imm) =
     let addr : ℕ = address_of (x h rs1) imm in
     let d = loads_done s h addr (load_bytes width) (goes_on (Ld width rd rs1 addr) (loaded h (instrs.Load width rd rs1 imm) (number_at s.bytes addr (load_bytes width)))) in

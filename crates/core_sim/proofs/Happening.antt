@@ -90,14 +90,14 @@ Tells s (Wr addr len) = Moves s addr len
 Tells s _ = Unit {0}
 
 -- an instruction
-tells_plain : (s : State) (instr : Instr) → IsValid instr → Tells s (kind_of instr)
+tells_plain : (s : State) (instr : Instr) → IsValid instr → IfSome (kind_of instr) (Tells s)
 tells_plain s (instrs.Lui rd imm) valid = omega (arith, valid.0)
 tells_plain s (instrs.Auipc rd imm) valid = omega (arith, valid.0)
 tells_plain s (instrs.Jal rd off) valid = omega (arith, valid.0)
 tells_plain s (instrs.Jalr rd rs1 imm) valid = (omega (arith, valid.0), omega (arith, valid.1))
 tells_plain s (instrs.Branch op rs1 rs2 off) valid = (omega (arith, valid.0), omega (arith, valid.1))
-tells_plain s (instrs.Load width rd rs1 imm) valid = omega arith
-tells_plain s (instrs.Store width rs2 rs1 imm) valid = omega arith
+tells_plain s (instrs.Load width rd rs1 imm) valid = tt
+tells_plain s (instrs.Store width rs2 rs1 imm) valid = tt
 tells_plain s (instrs.OpImm op rd rs1 imm) valid = elim (cases_Bool (rs1 == 0)) [
   | inl holds ↦ rw holds (omega (arith, valid.0))
   | inr fails ↦ elim (cases_Bool (is_copy op imm)) [
@@ -110,7 +110,7 @@ tells_plain s (instrs.Op op rd rs1 rs2) valid = elim (cases_Bool (cancels op && 
   | inr fails ↦ rw fails (omega (arith, valid.0), omega (arith, valid.1), omega (arith, valid.2))
 ]
 tells_plain s (instrs.Fence bits) valid = omega arith
-tells_plain s instrs.Ecall valid = omega arith
+tells_plain s instrs.Ecall valid = tt
 
 -- a call of the kernel
 abbrev TellsStep : State → KernelStep → Type 0
@@ -186,7 +186,7 @@ abbrev TellsAct : State → Act → Type 0
 TellsAct s act = Tells s act.kind
 
 tells_done : (s : State) (h : Hart) (effect : Effect) (act : Act) → OfValid effect → IsDone s h effect act → TellsAct s act
-tells_done s h (effects.Plain instr next) act valid done = subst (TellsAct s) (sym done) (tells_plain s instr valid)
+tells_done s h (effects.Plain instr next) act valid done = subst (TellsAct s) (sym done.act_is) (subst (λ (o : Option Kind). IfSome o (Tells s)) done.row (tells_plain s instr valid))
 tells_done s h (effects.Load (instrs.Load width rd rs1 imm) addr) act valid done = elim done [
   | inl (can, is) ↦ subst (TellsAct s) (sym is) (omega (arith, valid.0), omega (arith, valid.1), can)
   | inr fault ↦ subst (TellsAct s) (sym fault.act_is) tt

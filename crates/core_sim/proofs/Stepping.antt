@@ -1,5 +1,8 @@
 -- A machine after one more step.
 use Rattle.std.proofs.Common.{◌≡◌, ◌≢◌, ℕ, zero, suc, ◌+◌, ◌<◌, ◌≤◌, List, [], ◌∷◌, length, slice_index_or, slice_set, refl, arith, sym, ap, ◌∙◌, subst}
+use Rattle.std.specs.declared.result.Result.{Result}
+use Rattle.std.specs.declared.result.Result.TheVariants.{Ok, Err}
+use Rattle.std.specs.Prelude.{OnErr}
 use Rattle.guest_kernel.specs.State.{State, state_of}
 use Rattle.pl_event.specs.declared.event.Event.{Event}
 use Rattle.rv_exec.specs.Hart.{Hart}
@@ -13,7 +16,7 @@ use Rattle.core_sim.specs.Harts.{live_harts}
 use Rattle.core_sim.specs.Image.{MachineImage}
 use Rattle.core_sim.specs.Runs.{IsPrefix, IsLive, state_of_hart}
 use Rattle.core_sim.specs.Schedules.{items_of, turn_of_step, stepped}
-use Rattle.core_sim.specs.Stands.{Stands, GoesOn, turn_after}
+use Rattle.core_sim.specs.Stands.{Stands, CanGoOn, GoesOn, turn_after}
 use Rattle.core_sim.specs.Start.{standing_at}
 use Rattle.core_sim.specs.Steps.{Act, IsStep, state_left, instr_at}
 use Rattle.core_sim.proofs.Fitting.{fits_step}
@@ -80,6 +83,15 @@ halts job entries old stands none = ap live_harts (sym stands.harts) ∙ none
 pub prefix_within : (job : Job) (entries : List Entry) → IsPrefix job entries → length entries ≤ job.steps
 prefix_within job [] prefix = omega arith
 prefix_within job (e ∷ before) prefix = omega (arith, prefix.1.within)
+
+-- what holds of each outcome holds of a failure
+pub whatever_failed : {T E : Type 0} (r : Result T E) (P : Type 0) → P → OnErr r P
+whatever_failed (Ok value) P holds = tt
+whatever_failed (Err error) P holds = holds
+
+-- a hart is live, and the limit is not reached
+pub can_go_on : (job : Job) (entries : List Entry) (old : MachineImage) → Stands job entries old → live_harts old.harts ≢ [] → old.steps < old.limit → CanGoOn job entries
+can_go_on job entries old stands live within = record { live = λ none. live (ap live_harts stands.harts ∙ none); within = omega (arith, stands.steps, stands.limit) }
 
 -- a hart is live, and the limit is reached
 pub limits : (job : Job) (entries : List Entry) (old : MachineImage) → Stands job entries old → live_harts old.harts ≢ [] → old.limit ≤ old.steps → IsLive job entries × (length entries ≡ job.steps)

@@ -182,7 +182,7 @@ low_below i (suc k) n = cons_below 256 (byte_at i n) (bytes_low_first (suc i) k 
 stored_below : (width : StoreWidth) (number : ℕ) → Below 256 (take (store_bytes width) (to_le_bytes w32 number))
 stored_below width number = take_below 256 (store_bytes width) (to_le_bytes w32 number) (omega arith) (low_below 0 4 number)
 
-plain_address : (instr : Instr) → HasWordAddress (kind_of instr)
+plain_address : (instr : Instr) → IfSome (kind_of instr) HasWordAddress
 plain_address (instrs.Lui rd imm) = tt
 plain_address (instrs.Auipc rd imm) = tt
 plain_address (instrs.Jal rd off) = tt
@@ -260,7 +260,7 @@ called_word s h (Ended code) word is = record { hart = word; stored = none_below
 called_word s h (Went a0 kind) word is = record { hart = after_word h 10 a0 (next_pc h) word is.0 (next_word h); stored = is.1.1; address = is.1.0 }
 
 done_word : (s : State) (h : Hart) (effect : Effect) (act : Act) → WordState s → IsWordHart h → WordEffect effect → IsDone s h effect act → WordAct act
-done_word s h (effects.Plain instr next) act state word is done = subst WordAct (sym done) (record { hart = is; stored = none_below 256 (omega arith); address = plain_address instr })
+done_word s h (effects.Plain instr next) act state word is done = subst WordAct (sym done.act_is) (record { hart = is; stored = none_below 256 (omega arith); address = subst (λ (o : Option Kind). IfSome o HasWordAddress) done.row (plain_address instr) })
 done_word s h (effects.Load (instrs.Load width rd rs1 imm) addr) act state word is done = elim done [
   | inl (can, now) ↦ subst WordAct (sym now) (record {
     hart = after_word h rd _ (next_pc h) word (extended_word width (λ k. unwrap_or (s.bytes k) 0) addr state.bytes) (next_word h);

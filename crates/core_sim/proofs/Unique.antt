@@ -10,6 +10,7 @@ use Rattle.guest_kernel.specs.declared.call.KernelStep.{KernelStep}
 use Rattle.guest_kernel.specs.declared.call.KernelStep.TheVariants.{Went}
 use Rattle.guest_kernel.specs.Calls.{Call, exit_call, alloc_call, free_call, map_call, unmap_call, read_call, write_call, unknown_call, call_of, Live, Allocates, ComesTo, IsAnswer}
 use Rattle.guest_kernel.specs.State.{State}
+use Rattle.pl_event.specs.declared.event.Kind.{Kind}
 use Rattle.pl_event.specs.declared.event.Kind.TheVariants.{Al}
 use Rattle.rv_isa.specs.declared.instruction.Instr.{Instr}
 use Rattle.rv_isa.specs.declared.instruction.Instr.TheVariants as instrs
@@ -21,7 +22,7 @@ use Rattle.rv_exec.specs.Meaning.{effect_at}
 use Rattle.core_sim.specs.declared.job.Job.{Job}
 use Rattle.core_sim.specs.Entries.{Entry, state_after}
 use Rattle.core_sim.specs.Runs.{IsPrefix, IsNext, IsRun, IsEnded, state_of_hart}
-use Rattle.core_sim.specs.Steps.{Act, word_at, faulted, called, call_args, CanLoad, CanStore, LoadFaults, StoreFaults, IsFault, IsDone, IsFetched, IsStep, instr_at}
+use Rattle.core_sim.specs.Steps.{Act, goes_on, word_at, faulted, called, call_args, CanLoad, CanStore, LoadFaults, StoreFaults, IsFault, IsDone, IsFetched, IsStep, instr_at}
 
 -- a block has one lowest place
 one_place : (Taken : ℕ → ℕ → Type 0) (size a b : ℕ) → IsFirstFit Taken size a → IsFirstFit Taken size b → a ≡ b
@@ -126,7 +127,10 @@ one_access Can Why h addr done a b apart one p q = elim p [
 ]
 
 one_done : (s : State) (h : Hart) (effect : Effect) (a b : Act) → IsDone s h effect a → IsDone s h effect b → a ≡ b
-one_done s h (effects.Plain instr next) a b p q = p ∙ sym q
+one_done s h (effects.Plain instr next) a b p q =
+    let both : Some p.kind ≡ Some q.kind = sym p.row ∙ q.row in
+    let same : p.kind ≡ q.kind = cc in
+    p.act_is ∙ ap (λ (kind : Kind). goes_on kind next) same ∙ sym q.act_is
 one_done s h (effects.Load (instrs.Load width rd rs1 imm) addr) a b p q =
     one_access (CanLoad s addr (load_bytes width)) (LoadFaults s addr (load_bytes width)) h addr _ a b (load_or_fault s addr (load_bytes width)) (one_load_fault s addr (load_bytes width)) p q
 one_done s h (effects.Store (instrs.Store width rs2 rs1 imm) addr value) a b p q =

@@ -1,5 +1,5 @@
 -- A machine that stands for a prefix of its job's run.
-use Rattle.std.specs.Prelude.{◌≡◌, ◌∷◌, [], List, length}
+use Rattle.std.specs.Prelude.{◌≡◌, ◌<◌, ◌∷◌, [], List, length}
 use Rattle.guest_kernel.specs.State.{state_of}
 use Rattle.pl_event.specs.declared.event.Event.{Event}
 use Rattle.core_sim.specs.declared.job.Job.{Job}
@@ -36,6 +36,11 @@ pub record GoesOn (job : Job) (entries : List Entry) (events : List Event) (mach
   pub entry : Entry
   pub events_are : events ≡ events_of_entry entry
   pub stands : Stands job (entry ∷ entries) machine
+
+-- the run goes on: some hart is live, and the limit is not reached
+pub record CanGoOn (job : Job) (entries : List Entry) : Type 0 where
+  pub live : IsLive job entries
+  pub within : length entries < job.steps
 
 -- the run has come to its end, and nothing has changed
 pub record Stops (Why : Type 0) (old new : MachineImage) : Type 0 where

@@ -106,9 +106,15 @@ pub record IsCalled (s : State) (h : Hart) (act : Act) : Type 0 where
   pub answer : IsAnswer (call_of (x h 17)) s (call_args h) step
   pub act_is : act ≡ called s h step
 
+-- an instruction that needs neither memory nor the kernel has the event of its row
+pub record IsPlainAct (instr : Instr) (next : Hart) (act : Act) : Type 0 where
+  pub kind : Kind
+  pub row : kind_of instr ≡ Some kind
+  pub act_is : act ≡ goes_on kind next
+
 -- what an instruction's effect comes to
 abbrev pub IsDone : State → Hart → Effect → Act → Type 0
-IsDone s h (effects.Plain instr next) act = act ≡ goes_on (kind_of instr) next
+IsDone s h (effects.Plain instr next) act = IsPlainAct instr next act
 IsDone s h (effects.Load (instrs.Load width rd rs1 imm) addr) act =
     (CanLoad s addr (load_bytes width) × (act ≡ goes_on (Ld width rd rs1 addr) (loaded h (instrs.Load width rd rs1 imm) (number_at s.bytes addr (load_bytes width)))))
     ⊎ IsFault (LoadFaults s addr (load_bytes width)) h addr act

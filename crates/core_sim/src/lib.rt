@@ -10,10 +10,10 @@
 //! turns are looked up.
 #![tactic(auto)]
 
+mod asked;
 mod group;
 mod hart;
 mod job;
-mod kinds;
 mod laws;
 mod machine;
 mod start;

@@ -32,7 +32,7 @@ use Rattle.rv_exec.specs.Meaning.{effect_at, effect_of, moved, loaded, at_pc, ne
 use Rattle.core_sim.specs.declared.asked.Load.{Load}
 use Rattle.core_sim.specs.declared.asked.Store.{Store}
 use Rattle.core_sim.specs.Doing.{Did, did_go_on, did_fault, load_of, store_of, Does, DoesEffect}
-use Rattle.core_sim.specs.Events.{kind_of, is_copy, cancels}
+use Rattle.core_sim.specs.EventKinds.{kind_of, is_copy, cancels}
 use Rattle.core_sim.specs.Steps.{Act, goes_on, faulted, word_at, CanLoad, CanStore, LoadFaults, StoreFaults, IsDone, IsFetched, stores, call_args, called, moved_in, moved_out, left_by, state_left}
 use Rattle.core_sim.proofs.Ties.{same_state}
 

@@ -16,7 +16,7 @@ use Rattle.rv_exec.specs.declared.effect.Effect.{Effect}
 use Rattle.rv_exec.specs.declared.effect.Effect.TheVariants as effects
 use Rattle.rv_exec.specs.Hart.{Hart, x}
 use Rattle.rv_exec.specs.Meaning.{effect_at}
-use Rattle.core_sim.specs.Events.{kind_of, is_copy, cancels}
+use Rattle.core_sim.specs.EventKinds.{kind_of, is_copy, cancels}
 use Rattle.core_sim.specs.Harts.{is_live}
 use Rattle.core_sim.specs.Steps.{Act, word_at, called, call_args, IsDone, IsFetched, IsStep}
 

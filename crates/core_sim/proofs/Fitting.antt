@@ -21,7 +21,7 @@ use Rattle.rv_exec.specs.declared.effect.Effect.{Effect}
 use Rattle.rv_exec.specs.declared.effect.Effect.TheVariants as effects
 use Rattle.rv_exec.specs.Hart.{Hart, x}
 use Rattle.rv_exec.specs.Meaning.{effect_at}
-use Rattle.core_sim.specs.Events.{kind_of, is_copy, cancels}
+use Rattle.core_sim.specs.EventKinds.{kind_of, is_copy, cancels}
 use Rattle.core_sim.specs.Steps.{Act, word_at, IsDone, IsFetched, IsStep, called, call_args, moved_in, moved_out}
 use Rattle.core_sim.proofs.Ties.{Fits}
 

@@ -36,7 +36,7 @@ use Rattle.core_sim.specs.declared.turn.Place.TheVariants.{Around, Listed, Drawn
 use Rattle.core_sim.specs.declared.turn.Turn.{Turn}
 use Rattle.pl_event.specs.Mapping.{mapped_by}
 use Rattle.core_sim.specs.Entries.{Entry, is_mapped, block_at, blocks_by, byte_at, value, state_after, harts_after}
-use Rattle.core_sim.specs.Events.{kind_of, is_copy, cancels}
+use Rattle.core_sim.specs.EventKinds.{kind_of, is_copy, cancels}
 use Rattle.core_sim.specs.Harts.{is_live, live_from, live_harts, is_among_live}
 use Rattle.core_sim.specs.Runs.{IsPrefix, state_of_hart}
 use Rattle.core_sim.specs.Draws.{drawn}

@@ -35,7 +35,7 @@ use Rattle.rv_exec.specs.Meaning.{effect_at, effect_of, after, at_pc, next_pc, m
 use Rattle.core_sim.specs.declared.hart.Standing.{Standing}
 use Rattle.core_sim.specs.declared.job.Job.{Job}
 use Rattle.core_sim.specs.Entries.{Entry, wrote, value, taken, state_after, harts_after}
-use Rattle.core_sim.specs.Events.{kind_of, is_copy, cancels}
+use Rattle.core_sim.specs.EventKinds.{kind_of, is_copy, cancels}
 use Rattle.core_sim.specs.Runs.{IsPrefix, state_of_hart}
 use Rattle.core_sim.specs.Start.{text_bytes, image, begin_from, standing_at}
 use Rattle.core_sim.specs.Steps.{Act, word_at, called, call_args, moved_in, IsDone, IsFetched, IsStep}

@@ -13,7 +13,7 @@ use Rattle.core_sim.specs.declared.asked.Asked.{Asked}
 use Rattle.core_sim.specs.declared.asked.Asked.TheVariants.{Nothing, Bytes, Room, Call}
 use Rattle.core_sim.specs.declared.asked.Load.{Load}
 use Rattle.core_sim.specs.declared.asked.Store.{Store}
-use Rattle.core_sim.specs.Events.{kind_of}
+use Rattle.core_sim.specs.EventKinds.{kind_of}
 use Rattle.core_sim.specs.declared.hart.HartEnd.TheVariants.{Live, Fault}
 use Rattle.core_sim.specs.declared.hart.Standing.{Standing}
 use Rattle.core_sim.specs.Steps.{Act, word_at, IsDone, IsStep, state_left}

@@ -4,7 +4,7 @@ pub mod Draws
 pub mod Schedules
 pub mod Turns
 pub mod Start
-pub mod Events
+pub mod EventKinds
 pub mod Steps
 pub mod Entries
 pub mod Runs

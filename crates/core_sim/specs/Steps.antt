@@ -21,7 +21,7 @@ use Rattle.guest_kernel.specs.Calls.{call_of, IsAnswer}
 use Rattle.guest_kernel.specs.State.{State, changed_by, bytes_from}
 use Rattle.core_sim.specs.declared.hart.HartEnd.TheVariants.{Live, Exit, Fault}
 use Rattle.core_sim.specs.declared.hart.Standing.{Standing}
-use Rattle.core_sim.specs.Events.{kind_of}
+use Rattle.core_sim.specs.EventKinds.{kind_of}
 use Rattle.pl_base.specs.declared.layout.TheConstants.{PAGE_BYTES, TEXT_START}
 
 -- what a step came to: the kind of its event, the bytes that it wrote, the bytes that it sent outside, and the hart

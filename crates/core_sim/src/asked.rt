@@ -1,7 +1,7 @@
 //! What an instruction asks of the machine, and the kind of its event where it asks nothing.
 ghost use Rattle.std.specs.Prelude.{◌≡◌};
 ghost use Rattle.core_sim.specs.Doing.{Asks};
-ghost use Rattle.core_sim.specs.Events.{is_copy, cancels, of_immediate, of_registers};
+ghost use Rattle.core_sim.specs.EventKinds.{is_copy, cancels, of_immediate, of_registers};
 
 use pl_base::{LoadWidth, StoreWidth};
 use pl_event::Kind;
@@ -61,30 +61,46 @@ pub fn asked_by(instr: &Instr) -> Asked
             rd,
             rs1,
             imm,
-        } => return Asked::Bytes {
-            load: Load {
-                width,
-                rd,
-                rs1,
-                imm,
-            },
-        },
+        } => return bytes(width, rd, rs1, imm),
         Instr::Store {
             width,
             rs2,
             rs1,
             imm,
-        } => return Asked::Room {
-            store: Store {
-                width,
-                rs2,
-                rs1,
-                imm,
-            },
-        },
+        } => return room(width, rs2, rs1, imm),
         Instr::Ecall => return Asked::Call,
     };
     Asked::Nothing { kind }
+}
+
+/// A load of these fields.
+#[inline]
+fn bytes(width: LoadWidth, rd: u8, rs1: u8, imm: i32) -> Asked
+    ensures { Asks (Instr.Load width rd rs1 imm) result }
+{
+    Asked::Bytes {
+        load: Load {
+            width,
+            rd,
+            rs1,
+            imm,
+        },
+    }
+}
+
+/// A store of these fields.
+#[inline]
+fn room(width: StoreWidth, rs2: u8, rs1: u8, imm: i32) -> Asked
+    ensures { Asks (Instr.Store width rs2 rs1 imm) result }
+{
+    Asked::Room {
+        store: Store {
+            width,
+            rs2,
+            rs1,
+            imm,
+        },
+    }
 }
 
 /// The kind of the event of an operation on an immediate.

@@ -1,4 +1,4 @@
-//! That a job has one run, and that the events of a run are those of a lawful log.
+//! That a job has one run, and that each event of a run may follow those before it.
 ghost use Rattle.std.specs.Prelude.{◌≡◌, ◌∷◌, [], ℕ, ◌≤◌, List, Some, length, take, slice_get};
 ghost use Rattle.pl_base.specs.declared.layout.TheConstants.{MAX_MAPPED_PAGES};
 ghost use Rattle.pl_event.specs.declared.event.Event.{Event};

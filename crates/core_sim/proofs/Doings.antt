@@ -1,11 +1,10 @@
 -- The parts of a step.
-use Rattle.std.proofs.Common.{◌≡◌, ◌==◌, ◌&&◌, ℕ, ◌+◌, ◌<◌, inl, inr, false, List, [], take, Option, Some, None, IsSome, IfSome, ℤ, ◌/◌, ◌≤◌, refl, sym, ap, ◌∙◌, subst}
+use Rattle.std.proofs.Common.{◌≡◌, ◌==◌, ◌&&◌, ℕ, ◌+◌, ◌<◌, inl, inr, false, List, [], take, Option, Some, None, IsSome, IfSome, ℤ, SFits, to_z, of_z, ◌/◌, ◌≤◌, refl, sym, ap, ◌∙◌, subst}
 use Rattle.std.specs.Int.{to_le_bytes, w32}
 use Rattle.std.proofs.lemmas.Bool.{both_ways, cases_Bool}
+use Rattle.std.proofs.lemmas.Int.{to_z-of_z}
 use Rattle.pl_base.specs.declared.widths.FaultCause.{FaultCause}
 use Rattle.pl_base.specs.declared.widths.FaultCause.TheVariants.{Pc, Illegal}
-use Rattle.pl_base.specs.declared.widths.LoadWidth.{LoadWidth}
-use Rattle.pl_base.specs.declared.widths.StoreWidth.{StoreWidth}
 use Rattle.pl_base.specs.Widths.{load_bytes, store_bytes}
 use Rattle.pl_event.specs.declared.event.Kind.{Kind}
 use Rattle.pl_event.specs.declared.event.Kind.TheVariants.{Ld, St, Op, Mv, Im, Br, Jr, Al, Fr, Bf, Mp, Um, Rd, Wr, Ex, Ft}
@@ -17,7 +16,6 @@ use Rattle.guest_mem.specs.Image.{PageImage}
 use Rattle.guest_mem.specs.Memory.{bytes, mapped, texts}
 use Rattle.guest_mem.proofs.Pages.{written-nothing}
 use Rattle.guest_heap.specs.Blocks.{asked}
-use Rattle.rv_isa.proofs.Reading.{valid_where_read}
 use Rattle.guest_kernel.specs.declared.call.CallArgs.{CallArgs}
 use Rattle.guest_kernel.specs.declared.call.KernelStep.{KernelStep}
 use Rattle.guest_kernel.specs.declared.call.KernelStep.TheVariants.{Ended, Went}
@@ -27,13 +25,14 @@ use Rattle.guest_kernel.specs.State.{State, state_of, after, changed_by}
 use Rattle.rv_isa.specs.declared.instruction.Instr.{Instr}
 use Rattle.rv_isa.specs.declared.instruction.Instr.TheVariants as instrs
 use Rattle.rv_isa.specs.Table.{instruction_of}
-use Rattle.rv_isa.specs.Valid.{IsValid}
 use Rattle.rv_exec.specs.declared.effect.Effect.{Effect}
 use Rattle.rv_exec.specs.declared.effect.Effect.TheVariants as effects
 use Rattle.rv_exec.specs.Hart.{Hart, x}
-use Rattle.rv_exec.specs.Meaning.{effect_at, effect_of, loaded, at_pc, next_pc, IsLoad}
-use Rattle.core_sim.specs.Doing.{Did, did_go_on, did_fault, Does, DoesEffect, IsStore}
-use Rattle.core_sim.specs.Events.{kind_of, is_copy, cancels}
+use Rattle.rv_exec.specs.Meaning.{effect_at, effect_of, moved, loaded, at_pc, next_pc}
+use Rattle.core_sim.specs.declared.asked.Load.{Load}
+use Rattle.core_sim.specs.declared.asked.Store.{Store}
+use Rattle.core_sim.specs.Doing.{Did, did_go_on, did_fault, load_of, store_of, Does, DoesEffect}
+use Rattle.core_sim.specs.EventKinds.{kind_of, is_copy, cancels}
 use Rattle.core_sim.specs.Steps.{Act, goes_on, faulted, word_at, CanLoad, CanStore, LoadFaults, StoreFaults, IsDone, IsFetched, stores, call_args, called, moved_in, moved_out, left_by, state_left}
 use Rattle.core_sim.proofs.Ties.{same_state}
 
@@ -45,22 +44,27 @@ does_by : (old new : State) (h : Hart) (effect : Effect) (did : Did) (act : Act)
 unfolding did_of
 does_by old new h effect did act done is left = record { act = act; done = done; kind = ap (λ (d : Did). d.kind) is; next = ap (λ (d : Did). d.next) is; state = left }
 
--- a load
-pub load_faults : (s : State) (h : Hart) (instr : Instr) (width : LoadWidth) (rd rs1 : ℕ) (imm : ℤ) (addr : ℕ) (cause : FaultCause) (did : Did) → instr ≡ instrs.Load width rd rs1 imm →
-    LoadFaults s addr (load_bytes width) cause → did ≡ did_fault h cause addr → DoesEffect s s h (effects.Load instr addr) did
-unfolding did_of
-load_faults s h instr width rd rs1 imm addr cause did is why did_is =
-    subst (λ (i : Instr). DoesEffect s s h (effects.Load i addr) did) (sym is)
-    (does_by s s h (effects.Load (instrs.Load width rd rs1 imm) addr) did (faulted h cause addr) (inr (record { cause = cause; why = why; act_is = refl })) did_is refl)
+-- an address that was computed from an immediate
+pub address_is : (h : Hart) (r : ℕ) (imm : ℤ) (addr : ℕ) → SFits w32 imm → addr ≡ moved (x h r) (to_z w32 (of_z w32 imm)) → addr ≡ moved (x h r) imm
+address_is h r imm addr fits is = is ∙ ap (moved (x h r)) (to_z-of_z w32 imm fits)
 
-pub load_does : (s : State) (h : Hart) (instr : Instr) (width : LoadWidth) (rd rs1 : ℕ) (imm : ℤ) (addr raw : ℕ) (did : Did) → instr ≡ instrs.Load width rd rs1 imm →
-    CanLoad s addr (load_bytes width) → raw ≡ number_at s.bytes addr (load_bytes width) → did ≡ did_go_on (Ld width rd rs1 addr) (loaded h instr raw) → DoesEffect s s h (effects.Load instr addr) did
+-- a load
+pub load_faults : (s : State) (h : Hart) (load : Load) (addr : ℕ) (cause : FaultCause) (did : Did) → addr ≡ moved (x h load.rs1) load.imm →
+    LoadFaults s addr (load_bytes load.width) cause → did ≡ did_fault h cause addr → DoesEffect s s h (effect_of h (load_of load)) did
 unfolding did_of
-load_does s h instr width rd rs1 imm addr raw did is can value did_is =
-    let now : did ≡ did_go_on (Ld width rd rs1 addr) (loaded h (instrs.Load width rd rs1 imm) (number_at s.bytes addr (load_bytes width))) =
-    did_is ∙ ap (λ (i : Instr). did_go_on (Ld width rd rs1 addr) (loaded h i raw)) is ∙ ap (λ (n : ℕ). did_go_on (Ld width rd rs1 addr) (loaded h (instrs.Load width rd rs1 imm) n)) value in
-    subst (λ (i : Instr). DoesEffect s s h (effects.Load i addr) did) (sym is)
-    (does_by s s h (effects.Load (instrs.Load width rd rs1 imm) addr) did (goes_on (Ld width rd rs1 addr) (loaded h (instrs.Load width rd rs1 imm) (number_at s.bytes addr (load_bytes width)))) (inl (can, refl)) now refl)
+load_faults s h load addr cause did is why did_is =
+    subst (λ (a : ℕ). DoesEffect s s h (effects.Load (load_of load) a) did) is
+    (does_by s s h (effects.Load (load_of load) addr) did (faulted h cause addr) (inr (record { cause = cause; why = why; act_is = refl })) did_is refl)
+
+pub load_does : (s : State) (h : Hart) (load : Load) (addr raw : ℕ) (did : Did) → addr ≡ moved (x h load.rs1) load.imm →
+    CanLoad s addr (load_bytes load.width) → raw ≡ number_at s.bytes addr (load_bytes load.width) → did ≡ did_go_on (Ld load.width load.rd load.rs1 addr) (loaded h (load_of load) raw) →
+    DoesEffect s s h (effect_of h (load_of load)) did
+unfolding did_of
+load_does s h load addr raw did is can value did_is =
+    let now : did ≡ did_go_on (Ld load.width load.rd load.rs1 addr) (loaded h (load_of load) (number_at s.bytes addr (load_bytes load.width))) =
+    did_is ∙ ap (λ (n : ℕ). did_go_on (Ld load.width load.rd load.rs1 addr) (loaded h (load_of load) n)) value in
+    subst (λ (a : ℕ). DoesEffect s s h (effects.Load (load_of load) a) did) is
+    (does_by s s h (effects.Load (load_of load) addr) did (goes_on (Ld load.width load.rd load.rs1 addr) (loaded h (load_of load) (number_at s.bytes addr (load_bytes load.width)))) (inl (can, refl)) now refl)
 
 -- why bytes were not read or written
 pub not_mapped : (memory : List (Option PageImage)) (at count : ℕ) (fault : MemFault) → IsReadFault memory at count fault → AllMapped (bytes memory) at count → ⊥
@@ -71,22 +75,23 @@ pub not_clear : (memory : List (Option PageImage)) (at count : ℕ) → HasText 
 not_clear memory at count text clear = both_ways _ (clear text.0 text.1 text.2) text.3
 
 -- a store
-pub store_faults : (s new : State) (h : Hart) (instr : Instr) (width : StoreWidth) (rs2 rs1 : ℕ) (imm : ℤ) (addr value : ℕ) (cause : FaultCause) (did : Did) → instr ≡ instrs.Store width rs2 rs1 imm →
-    StoreFaults s addr (store_bytes width) cause → did ≡ did_fault h cause addr → new ≡ s → DoesEffect s new h (effects.Store instr addr value) did
+pub store_faults : (s new : State) (h : Hart) (store : Store) (addr : ℕ) (cause : FaultCause) (did : Did) → addr ≡ moved (x h store.rs1) store.imm →
+    StoreFaults s addr (store_bytes store.width) cause → did ≡ did_fault h cause addr → new ≡ s → DoesEffect s new h (effect_of h (store_of store)) did
 unfolding did_of
-store_faults s new h instr width rs2 rs1 imm addr value cause did is why did_is same =
-    subst (λ (i : Instr). DoesEffect s new h (effects.Store i addr value) did) (sym is)
-    (does_by s new h (effects.Store (instrs.Store width rs2 rs1 imm) addr value) did (faulted h cause addr) (inr (record { cause = cause; why = why; act_is = refl })) did_is same)
+store_faults s new h store addr cause did is why did_is same =
+    subst (λ (a : ℕ). DoesEffect s new h (effects.Store (store_of store) a (x h store.rs2)) did) is
+    (does_by s new h (effects.Store (store_of store) addr (x h store.rs2)) did (faulted h cause addr) (inr (record { cause = cause; why = why; act_is = refl })) did_is same)
 
-pub store_does : (old new : KernelImage) (h : Hart) (instr : Instr) (width : StoreWidth) (rs2 rs1 : ℕ) (imm : ℤ) (addr value : ℕ) (did : Did) → instr ≡ instrs.Store width rs2 rs1 imm →
-    CanStore (state_of old) addr (store_bytes width) → did ≡ did_go_on (St width rs2 rs1 addr) (at_pc h (next_pc h)) →
-    bytes new.memory ≡ written (bytes old.memory) addr (take (store_bytes width) (to_le_bytes w32 value)) → mapped new.memory ≡ mapped old.memory → texts new.memory ≡ texts old.memory →
-    new.heap ≡ old.heap → new.input ≡ old.input → new.output ≡ old.output → DoesEffect (state_of old) (state_of new) h (effects.Store instr addr value) did
+pub store_does : (old new : KernelImage) (h : Hart) (store : Store) (addr value : ℕ) (did : Did) → addr ≡ moved (x h store.rs1) store.imm → value ≡ x h store.rs2 →
+    CanStore (state_of old) addr (store_bytes store.width) → did ≡ did_go_on (St store.width store.rs2 store.rs1 addr) (at_pc h (next_pc h)) →
+    bytes new.memory ≡ written (bytes old.memory) addr (take (store_bytes store.width) (to_le_bytes w32 value)) → mapped new.memory ≡ mapped old.memory → texts new.memory ≡ texts old.memory →
+    new.heap ≡ old.heap → new.input ≡ old.input → new.output ≡ old.output → DoesEffect (state_of old) (state_of new) h (effect_of h (store_of store)) did
 unfolding did_of
-store_does old new h instr width rs2 rs1 imm addr value did is can did_is b m x l i o =
-    subst (λ (j : Instr). DoesEffect (state_of old) (state_of new) h (effects.Store j addr value) did) (sym is)
-    (does_by (state_of old) (state_of new) h (effects.Store (instrs.Store width rs2 rs1 imm) addr value) did (stores (St width rs2 rs1 addr) (take (store_bytes width) (to_le_bytes w32 value)) h) (inl (can, refl)) did_is
-    (same_state (state_of new) (state_left (state_of old) (stores (St width rs2 rs1 addr) (take (store_bytes width) (to_le_bytes w32 value)) h)) b m x (ap asked l) i o))
+store_does old new h store addr value did is value_is can did_is b m t l i o =
+    subst (λ (v : ℕ). DoesEffect (state_of old) (state_of new) h (effects.Store (store_of store) (moved (x h store.rs1) store.imm) v) did) value_is
+    (subst (λ (a : ℕ). DoesEffect (state_of old) (state_of new) h (effects.Store (store_of store) a value) did) is
+    (does_by (state_of old) (state_of new) h (effects.Store (store_of store) addr value) did (stores (St store.width store.rs2 store.rs1 addr) (take (store_bytes store.width) (to_le_bytes w32 value)) h) (inl (can, refl)) did_is
+    (same_state (state_of new) (state_left (state_of old) (stores (St store.width store.rs2 store.rs1 addr) (take (store_bytes store.width) (to_le_bytes w32 value)) h)) b m t (ap asked l) i o)))
 
 -- the registers of a call, one by one
 abbrev pub args_of : ℕ → ℕ → ℕ → ℕ → CallArgs
@@ -144,52 +149,28 @@ does_some words old new h did word effect fetched is does = record {
 }
 
 -- an instruction that needs neither memory nor the kernel changes nothing of them
-plain_left : (s : State) (instr : Instr) → s ≡ left_by s (kind_of instr) [] []
+plain_left : (s : State) (instr : Instr) → IfSome (kind_of instr) (λ kind. s ≡ left_by s kind [] [])
 plain_left s (instrs.Lui rd imm) = refl
 plain_left s (instrs.Auipc rd imm) = refl
 plain_left s (instrs.Jal rd off) = refl
 plain_left s (instrs.Jalr rd rs1 imm) = refl
 plain_left s (instrs.Branch op rs1 rs2 off) = refl
-plain_left s (instrs.Load width rd rs1 imm) = refl
-plain_left s (instrs.Store width rs2 rs1 imm) = refl
+plain_left s (instrs.Load width rd rs1 imm) = tt
+plain_left s (instrs.Store width rs2 rs1 imm) = tt
 plain_left s (instrs.OpImm op rd rs1 imm) = elim (cases_Bool (rs1 == 0)) [
   | inl holds ↦ rw holds refl
   | inr fails ↦ elim (cases_Bool (is_copy op imm)) [ inl copy ↦ rw (fails, copy) refl | inr other ↦ rw (fails, other) refl ]
 ]
 plain_left s (instrs.Op op rd rs1 rs2) = elim (cases_Bool (cancels op && (rs1 == rs2))) [ inl holds ↦ rw holds refl | inr fails ↦ rw fails refl ]
 plain_left s (instrs.Fence bits) = refl
-plain_left s instrs.Ecall = refl
+plain_left s instrs.Ecall = tt
 
-pub plain_does : (s : State) (h : Hart) (instr : Instr) (next : Hart) (did : Did) → did ≡ did_go_on (kind_of instr) next → DoesEffect s s h (effects.Plain instr next) did
+pub plain_does : (s : State) (h : Hart) (instr : Instr) (next : Hart) (kind : Kind) (did : Did) → kind_of instr ≡ Some kind → did ≡ did_go_on kind next → DoesEffect s s h (effects.Plain instr next) did
 unfolding did_of
-plain_does s h instr next did is = does_by s s h (effects.Plain instr next) did (goes_on (kind_of instr) next) refl is (plain_left s instr)
+plain_does s h instr next kind did row is =
+    let left : s ≡ left_by s kind [] [] = subst (λ (o : Option Kind). IfSome o (λ k. s ≡ left_by s k [] [])) row (plain_left s instr) in
+    does_by s s h (effects.Plain instr next) did (goes_on kind next) (record { kind = kind; row = row; act_is = refl }) is left
 
 pub illegal_does : (s : State) (h : Hart) (did : Did) → did ≡ did_fault h Illegal h.pc → DoesEffect s s h effects.Illegal did
 unfolding did_of
 illegal_does s h did is = does_by s s h effects.Illegal did (faulted h Illegal h.pc) refl is refl
-
--- an effect that asks memory is that of a load or a store
-abbrev pub Asks : Effect → Type 0
-Asks (effects.Load instr addr) = IsValid instr × IsLoad instr
-Asks (effects.Store instr addr value) = IsStore instr
-Asks _ = Unit {0}
-
-asks : (h : Hart) (instr : Instr) → IsValid instr → Asks (effect_of h instr)
-asks h (instrs.Lui rd imm) valid = tt
-asks h (instrs.Auipc rd imm) valid = tt
-asks h (instrs.Jal rd off) valid = tt
-asks h (instrs.Jalr rd rs1 imm) valid = tt
-asks h (instrs.Branch op rs1 rs2 off) valid = tt
-asks h (instrs.Load width rd rs1 imm) valid = (valid, tt)
-asks h (instrs.Store width rs2 rs1 imm) valid = tt
-asks h (instrs.OpImm op rd rs1 imm) valid = tt
-asks h (instrs.Op op rd rs1 rs2) valid = tt
-asks h (instrs.Fence bits) valid = tt
-asks h instrs.Ecall valid = tt
-
-asks_at : (h : Hart) (o : Option Instr) → IfSome o IsValid → Asks (effect_at h o)
-asks_at h None valid = tt
-asks_at h (Some instr) valid = asks h instr valid
-
-pub asks_of_word : (h : Hart) (word : ℕ) (effect : Effect) → effect_at h (instruction_of word) ≡ effect → Asks effect
-asks_of_word h word effect is = subst Asks is (asks_at h (instruction_of word) (valid_where_read word))

@@ -1,5 +1,5 @@
 -- Each step writes mapped bytes alone, maps pages of the map region alone, and sends bytes by a wr alone.
-use Rattle.std.proofs.Common.{◌≡◌, ◌==◌, ℕ, ◌/◌, ◌≤◌, ◌&&◌, inl, inr, List, [], length, take, min, Option, Some, None, refl, arith, sym, subst}
+use Rattle.std.proofs.Common.{◌≡◌, ◌==◌, ℕ, ◌/◌, ◌≤◌, ◌&&◌, inl, inr, List, [], length, take, min, Option, Some, None, IfSome, refl, arith, sym, subst}
 use Rattle.std.specs.Int.{to_le_bytes, w32}
 use Rattle.std.proofs.lemmas.List.{length-take}
 use Rattle.std.proofs.lemmas.Bool.{cases_Bool}
@@ -12,6 +12,7 @@ use Rattle.guest_kernel.specs.declared.call.KernelStep.{KernelStep}
 use Rattle.guest_kernel.specs.declared.call.KernelStep.TheVariants.{Ended, Went}
 use Rattle.guest_kernel.specs.Calls.{Call, exit_call, alloc_call, free_call, map_call, unmap_call, read_call, write_call, unknown_call, call_of, IsAnswer, freed, moved}
 use Rattle.guest_kernel.specs.State.{State}
+use Rattle.pl_event.specs.declared.event.Kind.{Kind}
 use Rattle.pl_event.specs.declared.event.Kind.TheVariants.{Rd, Wr}
 use Rattle.rv_isa.specs.declared.instruction.Instr.{Instr}
 use Rattle.rv_isa.specs.declared.instruction.Instr.TheVariants as instrs
@@ -20,7 +21,7 @@ use Rattle.rv_exec.specs.declared.effect.Effect.{Effect}
 use Rattle.rv_exec.specs.declared.effect.Effect.TheVariants as effects
 use Rattle.rv_exec.specs.Hart.{Hart, x}
 use Rattle.rv_exec.specs.Meaning.{effect_at}
-use Rattle.core_sim.specs.Events.{kind_of, is_copy, cancels}
+use Rattle.core_sim.specs.EventKinds.{kind_of, is_copy, cancels}
 use Rattle.core_sim.specs.Steps.{Act, word_at, IsDone, IsFetched, IsStep, called, call_args, moved_in, moved_out}
 use Rattle.core_sim.proofs.Ties.{Fits}
 
@@ -32,21 +33,21 @@ abbrev FitsStep : State → KernelStep → Type 0
 FitsStep s (Ended code) = Unit {0}
 FitsStep s (Went a0 kind) = Fits s kind (moved_in s kind) (moved_out s kind)
 
-fits_plain : (s : State) (instr : Instr) → Fits s (kind_of instr) [] []
+fits_plain : (s : State) (instr : Instr) → IfSome (kind_of instr) (λ kind. Fits s kind [] [])
 fits_plain s (instrs.Lui rd imm) = refl
 fits_plain s (instrs.Auipc rd imm) = refl
 fits_plain s (instrs.Jal rd off) = refl
 fits_plain s (instrs.Jalr rd rs1 imm) = refl
 fits_plain s (instrs.Branch op rs1 rs2 off) = refl
-fits_plain s (instrs.Load width rd rs1 imm) = refl
-fits_plain s (instrs.Store width rs2 rs1 imm) = refl
+fits_plain s (instrs.Load width rd rs1 imm) = tt
+fits_plain s (instrs.Store width rs2 rs1 imm) = tt
 fits_plain s (instrs.OpImm op rd rs1 imm) = elim (cases_Bool (rs1 == 0)) [
   | inl holds ↦ rw holds refl
   | inr fails ↦ elim (cases_Bool (is_copy op imm)) [ inl copy ↦ rw (fails, copy) refl | inr other ↦ rw (fails, other) refl ]
 ]
 fits_plain s (instrs.Op op rd rs1 rs2) = elim (cases_Bool (cancels op && (rs1 == rs2))) [ inl holds ↦ rw holds refl | inr fails ↦ rw fails refl ]
 fits_plain s (instrs.Fence bits) = refl
-fits_plain s instrs.Ecall = refl
+fits_plain s instrs.Ecall = tt
 
 length_stored : (width : StoreWidth) (value : ℕ) → length (take (store_bytes width) (to_le_bytes w32 value)) ≡ store_bytes width
 length_stored store.B value = refl
@@ -93,7 +94,7 @@ fits_called s h (Ended code) fits = refl
 fits_called s h (Went a0 kind) fits = fits
 
 fits_done : (s : State) (h : Hart) (effect : Effect) (act : Act) → IsDone s h effect act → FitsAct s act
-fits_done s h (effects.Plain instr next) act done = subst (FitsAct s) (sym done) (fits_plain s instr)
+fits_done s h (effects.Plain instr next) act done = subst (FitsAct s) (sym done.act_is) (subst (λ (o : Option Kind). IfSome o (λ kind. Fits s kind [] [])) done.row (fits_plain s instr))
 fits_done s h (effects.Load (instrs.Load width rd rs1 imm) addr) act done = elim done [
   | inl (can, is) ↦ subst (FitsAct s) (sym is) refl
   | inr fault ↦ subst (FitsAct s) (sym fault.act_is) refl

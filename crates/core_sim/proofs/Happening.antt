@@ -15,6 +15,7 @@ use Rattle.pl_base.specs.declared.widths.LoadWidth.{LoadWidth}
 use Rattle.pl_base.specs.declared.widths.LoadWidth.TheVariants as loads
 use Rattle.pl_base.specs.declared.widths.StoreWidth.{StoreWidth}
 use Rattle.pl_base.specs.declared.widths.StoreWidth.TheVariants as store
+use Rattle.pl_event.specs.declared.event.Event.{Event}
 use Rattle.pl_event.specs.declared.event.Kind.{Kind}
 use Rattle.pl_event.specs.declared.event.Kind.TheVariants.{Ld, St, Op, Mv, Im, Br, Jr, Al, Fr, Bf, Mp, Um, Rd, Wr, Ex, Ft}
 use Rattle.pl_event.specs.Valid.{IsByteRange, HasValidFields, IsValidEvent}
@@ -35,11 +36,12 @@ use Rattle.core_sim.specs.declared.turn.Place.TheVariants.{Around, Listed, Drawn
 use Rattle.core_sim.specs.declared.turn.Turn.{Turn}
 use Rattle.pl_event.specs.Mapping.{mapped_by}
 use Rattle.core_sim.specs.Entries.{Entry, is_mapped, block_at, blocks_by, byte_at, value, state_after, harts_after}
-use Rattle.core_sim.specs.Events.{kind_of, is_copy, cancels}
+use Rattle.core_sim.specs.EventKinds.{kind_of, is_copy, cancels}
 use Rattle.core_sim.specs.Harts.{is_live, live_from, live_harts, is_among_live}
-use Rattle.core_sim.specs.Runs.{IsFront, state_of_hart}
-use Rattle.core_sim.specs.Schedules.{items_of, first_live, listed_turn, next_turn, drawn, turn_of_step}
-use Rattle.core_sim.specs.Stands.{event_of, turn_after}
+use Rattle.core_sim.specs.Runs.{IsPrefix, state_of_hart}
+use Rattle.core_sim.specs.Draws.{drawn}
+use Rattle.core_sim.specs.Schedules.{items_of, first_live, listed_turn, next_turn, turn_of_step}
+use Rattle.core_sim.specs.Stands.{turn_after}
 use Rattle.core_sim.specs.Start.{start_runs}
 use Rattle.core_sim.specs.Steps.{Act, word_at, called, call_args, CanLoad, CanStore, IsDone, IsFetched, IsStep}
 use Rattle.core_sim.specs.Valid.{IsValidJob}
@@ -71,7 +73,7 @@ pub record Moves (s : State) (addr len : ℕ) : Type 0 where
   pub all_mapped : AllMapped s.bytes addr len
 
 -- what is known of the state where a step has such an event
-abbrev Tells : State → Kind → Type 0
+abbrev pub Tells : State → Kind → Type 0
 Tells s (Ld width rd rb addr) = (rd < 34) × (rb < 34) × CanLoad s addr (load_bytes width)
 Tells s (St width rv rb addr) = (rv < 34) × (rb < 34) × CanStore s addr (store_bytes width)
 Tells s (Op rd r1 r2) = (rd < 34) × (r1 < 34) × (r2 < 34)
@@ -88,14 +90,14 @@ Tells s (Wr addr len) = Moves s addr len
 Tells s _ = Unit {0}
 
 -- an instruction
-tells_plain : (s : State) (instr : Instr) → IsValid instr → Tells s (kind_of instr)
+tells_plain : (s : State) (instr : Instr) → IsValid instr → IfSome (kind_of instr) (Tells s)
 tells_plain s (instrs.Lui rd imm) valid = omega (arith, valid.0)
 tells_plain s (instrs.Auipc rd imm) valid = omega (arith, valid.0)
 tells_plain s (instrs.Jal rd off) valid = omega (arith, valid.0)
 tells_plain s (instrs.Jalr rd rs1 imm) valid = (omega (arith, valid.0), omega (arith, valid.1))
 tells_plain s (instrs.Branch op rs1 rs2 off) valid = (omega (arith, valid.0), omega (arith, valid.1))
-tells_plain s (instrs.Load width rd rs1 imm) valid = omega arith
-tells_plain s (instrs.Store width rs2 rs1 imm) valid = omega arith
+tells_plain s (instrs.Load width rd rs1 imm) valid = tt
+tells_plain s (instrs.Store width rs2 rs1 imm) valid = tt
 tells_plain s (instrs.OpImm op rd rs1 imm) valid = elim (cases_Bool (rs1 == 0)) [
   | inl holds ↦ rw holds (omega (arith, valid.0))
   | inr fails ↦ elim (cases_Bool (is_copy op imm)) [
@@ -108,7 +110,7 @@ tells_plain s (instrs.Op op rd rs1 rs2) valid = elim (cases_Bool (cancels op && 
   | inr fails ↦ rw fails (omega (arith, valid.0), omega (arith, valid.1), omega (arith, valid.2))
 ]
 tells_plain s (instrs.Fence bits) valid = omega arith
-tells_plain s instrs.Ecall valid = omega arith
+tells_plain s instrs.Ecall valid = tt
 
 -- a call of the kernel
 abbrev TellsStep : State → KernelStep → Type 0
@@ -184,7 +186,7 @@ abbrev TellsAct : State → Act → Type 0
 TellsAct s act = Tells s act.kind
 
 tells_done : (s : State) (h : Hart) (effect : Effect) (act : Act) → OfValid effect → IsDone s h effect act → TellsAct s act
-tells_done s h (effects.Plain instr next) act valid done = subst (TellsAct s) (sym done) (tells_plain s instr valid)
+tells_done s h (effects.Plain instr next) act valid done = subst (TellsAct s) (sym done.act_is) (subst (λ (o : Option Kind). IfSome o (Tells s)) done.row (tells_plain s instr valid))
 tells_done s h (effects.Load (instrs.Load width rd rs1 imm) addr) act valid done = elim done [
   | inl (can, is) ↦ subst (TellsAct s) (sym is) (omega (arith, valid.0), omega (arith, valid.1), can)
   | inr fault ↦ subst (TellsAct s) (sym fault.act_is) tt
@@ -202,7 +204,7 @@ tells_fetched : (s : State) (h : Hart) (word : Option ℕ) (act : Act) → IsFet
 tells_fetched s h None act is = subst (TellsAct s) (sym is) tt
 tells_fetched s h (Some word) act is = tells_done s h (effect_at h (instruction_of word)) act (of_valid_at h (instruction_of word) (valid_where_read word)) is
 
-tells_step : (words : List ℕ) (s : State) (h : Hart) (act : Act) → IsStep words s h act → TellsAct s act
+pub tells_step : (words : List ℕ) (s : State) (h : Hart) (act : Act) → IsStep words s h act → TellsAct s act
 tells_step words s h act is = tells_fetched s h (word_at words h.pc) act is
 
 -- no page past the last is mapped, few pages are, and each block lies in memory
@@ -263,14 +265,14 @@ bounds_next s (Um page count) b tells = record {
   fit = b.fit;
 }
 
-bounds_of : (job : Job) (entries : List Entry) → IsValidJob job → IsFront job entries → Bounds (is_mapped job entries) (block_at entries)
-bounds_of job [] valid front = record {
+bounds_of : (job : Job) (entries : List Entry) → IsValidJob job → IsPrefix job entries → Bounds (is_mapped job entries) (block_at entries)
+bounds_of job [] valid prefix = record {
   pages = λ page is. runs_inside 0 (start_runs job) page (rises job valid) is;
   few = omega (arith, count_runs 0 (start_runs job) (rises job valid), few_pages job valid);
   fit = λ addr len is. absurd (cc);
 }
-bounds_of job (e ∷ before) valid front =
-    bounds_next (state_after job before) e.act.kind (bounds_of job before valid front.0) (tells_step job.words (state_after job before) (state_of_hart job before e.hart) e.act front.1.step)
+bounds_of job (e ∷ before) valid prefix =
+    bounds_next (state_after job before) e.act.kind (bounds_of job before valid prefix.0) (tells_step job.words (state_after job before) (state_of_hart job before e.hart) e.act prefix.1.step)
 
 -- the fields of an event
 byte_below : (job : Job) (before : List Entry) (k : ℕ) → Bounds (is_mapped job before) (block_at before) → IsSome (byte_at job before k) → k < 2 ^ 24
@@ -375,10 +377,13 @@ harts_within : (job : Job) (entries : List Entry) → length (harts_after job en
 harts_within job [] = omega (arith, length_begin (take job.harts job.entries) 0, length-take job.harts job.entries)
 harts_within job (e ∷ before) = omega (arith, harts_within job before, length-set (harts_after job before) e.hart e.act.next)
 
-pub event_is_valid : (job : Job) (before : List Entry) (e : Entry) → IsValidJob job → IsFront job (e ∷ before) → IsValidEvent (event_of e) job.harts
-event_is_valid job before e valid front =
-    let turn = turn_below (items_of job.schedule) (turn_after job before) (harts_after job before) front.1.live in (
-      omega (arith, turn, front.1.hart, same_hart job before front.0 front.1.live, harts_within job before),
-      valid_fields job before e.act.kind (bounds_of job before valid front.0) (tells_step job.words (state_after job before) (state_of_hart job before e.hart) e.act front.1.step)
-          (word_address job before e valid front),
+abbrev pub event_of : Entry → Event
+event_of e = record { hart = e.hart; kind = e.act.kind }
+
+pub event_is_valid : (job : Job) (before : List Entry) (e : Entry) → IsValidJob job → IsPrefix job (e ∷ before) → IsValidEvent (event_of e) job.harts
+event_is_valid job before e valid prefix =
+    let turn = turn_below (items_of job.schedule) (turn_after job before) (harts_after job before) prefix.1.live in (
+      omega (arith, turn, prefix.1.hart, same_hart job before prefix.0 prefix.1.live, harts_within job before),
+      valid_fields job before e.act.kind (bounds_of job before valid prefix.0) (tells_step job.words (state_after job before) (state_of_hart job before e.hart) e.act prefix.1.step)
+          (word_address job before e valid prefix),
     )

@@ -10,3 +10,7 @@ mod Doings
 mod Unique
 mod Happening
 mod Typed
+mod Turned
+mod Ending
+mod Following
+mod Existing

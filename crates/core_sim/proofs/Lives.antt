@@ -9,7 +9,7 @@ use Rattle.core_sim.specs.Harts.{is_live, live_from, live_harts, is_among_live}
 use Rattle.core_sim.specs.declared.turn.Place.TheVariants.{Listed}
 use Rattle.core_sim.specs.Schedules.{listed_turn}
 
--- one hart in front
+-- one hart first
 pub live_more : (first : ℕ) (hart : Standing) (rest : List Standing) → is_live hart.end ≡ true → live_from first (hart ∷ rest) ≡ first ∷ live_from (first + 1) rest
 live_more first hart rest live = rw live refl
 

@@ -74,7 +74,7 @@ Fits s (Wr addr len) stored sent = Unit {0}
 Fits s _ stored sent = sent ≡ []
 
 abbrev entry_of : ℕ → Kind → List ℕ → List ℕ → Standing → Entry
-entry_of hart kind stored sent next = record { hart = hart; act = record { kind = kind; stored = stored; sent = sent; next = next } }
+entry_of hart kind stored sent next = record { hart = hart; instr = None; act = record { kind = kind; stored = stored; sent = sent; next = next } }
 
 made : (ℕ → Option ℕ) → (ℕ → Bool) → (ℕ → Bool) → (ℕ → Option ℕ) → List ℕ → List ℕ → State
 made b m x l i o = record { bytes = b; mapped = m; texts = x; blocks = l; input = i; output = o }

@@ -11,10 +11,11 @@ use Rattle.core_sim.specs.declared.turn.Place.TheVariants.{Around, Listed, Drawn
 use Rattle.core_sim.specs.declared.turn.Turn.{Turn}
 use Rattle.core_sim.specs.Entries.{Entry, harts_after, turns_of, scheduled}
 use Rattle.core_sim.specs.Harts.{live_harts, is_among_live}
-use Rattle.core_sim.specs.Runs.{IsFront, IsLive}
-use Rattle.core_sim.specs.Schedules.{items_of, first_place, first_live, round_turn, listed_turn, drawn, next_turn, turn_of_step, stepped}
+use Rattle.core_sim.specs.Runs.{IsPrefix, IsLive}
+use Rattle.core_sim.specs.Draws.{drawn, drawn_after}
+use Rattle.core_sim.specs.Schedules.{items_of, first_place, first_live, round_turn, listed_turn, next_turn, turn_of_step, stepped}
 use Rattle.core_sim.specs.Stands.{turn_after}
-use Rattle.core_sim.specs.Turns.{Turned, begun, round_hart, behind_item, items_left, behind_list, next_item, listed, draw, drawn_hart, next_begun, goes_on, harts_of, with_current, one_more, latest_hart}
+use Rattle.core_sim.specs.Turns.{Turned, begun, round_hart, behind_item, items_left, behind_list, next_item, listed, drawn_hart, next_begun, goes_on, harts_of, with_current, one_more, latest_hart}
 
 -- round and round
 abbrev round_from : List ℕ → ℕ
@@ -112,7 +113,7 @@ record BehindList (items : List Item) (past : List ℕ) (place : Place) : Type 0
 abbrev Placed : Schedule → List ℕ → Place → Type 0
 Placed (schedule.Rr q) past place = place ≡ Around q (round_from past)
 Placed (schedule.List items) past place = OnList items past place ⊎ BehindList items past place
-Placed (schedule.Seed n q) past place = place ≡ Drawn (draw n (length past)) q
+Placed (schedule.Seed n q) past place = place ≡ Drawn (drawn_after n (length past)) q
 
 -- a turn that is begun on both sides
 record Begins (s : Schedule) (past : List ℕ) (plain : Turned) (turn : Turn) : Type 0 where
@@ -193,7 +194,7 @@ next_begins (schedule.Rr q) past live place some placed =
     (record { hart = rounds_same past live; left = refl; taken = refl; placed = ap (λ (h : ℕ). Around q (h + 1)) (rounds_same past live) })
 next_begins (schedule.List items) past live place some placed = list_begins items past live place some placed
 next_begins (schedule.Seed n q) past live place some placed =
-    let next_is : draw n (length past + 1) ≡ drawn (draw n (length past)) = rw add-one refl in
+    let next_is : drawn_after n (length past + 1) ≡ drawn (drawn_after n (length past)) = rw add-one refl in
     subst (λ (p : Place). Begins (schedule.Seed n q) past (next_begun (schedule.Seed n q) past live) (next_turn [] p live)) (sym placed)
     (record { hart = ap (λ (x : ℕ). drawn_hart x live) (sym next_is); left = refl; taken = refl; placed = refl })
 
@@ -244,14 +245,14 @@ start_placed (schedule.Rr q) = refl
 start_placed (schedule.List items) = inl (record { at = 0; place_is = refl; left = refl; none_behind = refl })
 start_placed (schedule.Seed n q) = refl
 
-turns_same : (job : Job) (entries : List Entry) → IsFront job entries → Same job.schedule (turns_of job entries) (turn_after job entries)
-turns_same job [] front = record { hart = refl; left = refl; placed = start_placed job.schedule }
-turns_same job (e ∷ before) front =
+turns_same : (job : Job) (entries : List Entry) → IsPrefix job entries → Same job.schedule (turns_of job entries) (turn_after job entries)
+turns_same job [] prefix = record { hart = refl; left = refl; placed = start_placed job.schedule }
+turns_same job (e ∷ before) prefix =
     more_same job.schedule (with_current job.schedule (turns_of job before) (live_harts (harts_after job before))) (turn_of_step (items_of job.schedule) (turn_after job before) (live_harts (harts_after job before)))
-    (here_same job.schedule (turns_of job before) (turn_after job before) (live_harts (harts_after job before)) front.1.live (turns_same job before front.0))
+    (here_same job.schedule (turns_of job before) (turn_after job before) (live_harts (harts_after job before)) prefix.1.live (turns_same job before prefix.0))
 
--- after a front of a run, the turn of a machine's next step is of the hart that the schedule names
-pub same_hart : (job : Job) (entries : List Entry) → IsFront job entries → IsLive job entries →
+-- after a prefix of a run, the turn of a machine's next step is of the hart that the schedule names
+pub same_hart : (job : Job) (entries : List Entry) → IsPrefix job entries → IsLive job entries →
     (turn_of_step (items_of job.schedule) (turn_after job entries) (live_harts (harts_after job entries))).hart ≡ scheduled job entries
-same_hart job entries front live =
-    (here_same job.schedule (turns_of job entries) (turn_after job entries) (live_harts (harts_after job entries)) live (turns_same job entries front)).hart
+same_hart job entries prefix live =
+    (here_same job.schedule (turns_of job entries) (turn_after job entries) (live_harts (harts_after job entries)) live (turns_same job entries prefix)).hart

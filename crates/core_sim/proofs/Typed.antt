@@ -35,8 +35,8 @@ use Rattle.rv_exec.specs.Meaning.{effect_at, effect_of, after, at_pc, next_pc, m
 use Rattle.core_sim.specs.declared.hart.Standing.{Standing}
 use Rattle.core_sim.specs.declared.job.Job.{Job}
 use Rattle.core_sim.specs.Entries.{Entry, wrote, value, taken, state_after, harts_after}
-use Rattle.core_sim.specs.Events.{kind_of, is_copy, cancels}
-use Rattle.core_sim.specs.Runs.{IsFront, state_of_hart}
+use Rattle.core_sim.specs.EventKinds.{kind_of, is_copy, cancels}
+use Rattle.core_sim.specs.Runs.{IsPrefix, state_of_hart}
 use Rattle.core_sim.specs.Start.{text_bytes, image, begin_from, standing_at}
 use Rattle.core_sim.specs.Steps.{Act, word_at, called, call_args, moved_in, IsDone, IsFetched, IsStep}
 use Rattle.core_sim.specs.Valid.{HasTypedNumbers, IsValidJob}
@@ -182,7 +182,7 @@ low_below i (suc k) n = cons_below 256 (byte_at i n) (bytes_low_first (suc i) k 
 stored_below : (width : StoreWidth) (number : ℕ) → Below 256 (take (store_bytes width) (to_le_bytes w32 number))
 stored_below width number = take_below 256 (store_bytes width) (to_le_bytes w32 number) (omega arith) (low_below 0 4 number)
 
-plain_address : (instr : Instr) → HasWordAddress (kind_of instr)
+plain_address : (instr : Instr) → IfSome (kind_of instr) HasWordAddress
 plain_address (instrs.Lui rd imm) = tt
 plain_address (instrs.Auipc rd imm) = tt
 plain_address (instrs.Jal rd off) = tt
@@ -260,7 +260,7 @@ called_word s h (Ended code) word is = record { hart = word; stored = none_below
 called_word s h (Went a0 kind) word is = record { hart = after_word h 10 a0 (next_pc h) word is.0 (next_word h); stored = is.1.1; address = is.1.0 }
 
 done_word : (s : State) (h : Hart) (effect : Effect) (act : Act) → WordState s → IsWordHart h → WordEffect effect → IsDone s h effect act → WordAct act
-done_word s h (effects.Plain instr next) act state word is done = subst WordAct (sym done) (record { hart = is; stored = none_below 256 (omega arith); address = plain_address instr })
+done_word s h (effects.Plain instr next) act state word is done = subst WordAct (sym done.act_is) (record { hart = is; stored = none_below 256 (omega arith); address = subst (λ (o : Option Kind). IfSome o HasWordAddress) done.row (plain_address instr) })
 done_word s h (effects.Load (instrs.Load width rd rs1 imm) addr) act state word is done = elim done [
   | inl (can, now) ↦ subst WordAct (sym now) (record {
     hart = after_word h rd _ (next_pc h) word (extended_word width (λ k. unwrap_or (s.bytes k) 0) addr state.bytes) (next_word h);
@@ -364,21 +364,21 @@ state_word job entries typed run = record {
   input = drop_below 256 (taken entries) job.input (all_below 256 job.input (omega arith) (recursion_from_All _ job.input typed.input));
 }
 
-act_word : (job : Job) (before : List Entry) (e : Entry) → IsValidJob job → HasTypedNumbers job → IsFront job before → WordRun job before → IsStep job.words (state_after job before) (state_of_hart job before e.hart) e.act → WordAct e.act
-act_word job before e valid typed front run step = step_word job.words (state_after job before) (state_of_hart job before e.hart) e.act (state_word job before typed run) (run.harts e.hart) step
+act_word : (job : Job) (before : List Entry) (e : Entry) → IsValidJob job → HasTypedNumbers job → IsPrefix job before → WordRun job before → IsStep job.words (state_after job before) (state_of_hart job before e.hart) e.act → WordAct e.act
+act_word job before e valid typed prefix run step = step_word job.words (state_after job before) (state_of_hart job before e.hart) e.act (state_word job before typed run) (run.harts e.hart) step
 
-run_word : (job : Job) (entries : List Entry) → IsValidJob job → HasTypedNumbers job → IsFront job entries → WordRun job entries
-run_word job [] valid typed front = record {
+run_word : (job : Job) (entries : List Entry) → IsValidJob job → HasTypedNumbers job → IsPrefix job entries → WordRun job entries
+run_word job [] valid typed prefix = record {
   bytes = image_below job typed;
   harts = begin_words (take job.harts job.entries) 0 (take_below (2 ^ 32) job.harts job.entries (omega arith) (all_below (2 ^ 32) job.entries (omega arith) (recursion_from_All _ job.entries typed.entries))) (omega (arith, length-take job.harts job.entries, valid.few_harts));
 }
-run_word job (e ∷ before) valid typed front =
-    let run = run_word job before valid typed front.0 in
-    let act = act_word job before e valid typed front.0 run front.1.step in
+run_word job (e ∷ before) valid typed prefix =
+    let run = run_word job before valid typed prefix.0 in
+    let act = act_word job before e valid typed prefix.0 run prefix.1.step in
     record {
       bytes = λ k. wrote_below e.act.kind e.act.stored k (value job before k) act.stored (run.bytes k);
       harts = set_words (harts_after job before) e.hart e.act.next act.hart run.harts;
     }
 
-pub word_address : (job : Job) (before : List Entry) (e : Entry) → IsValidJob job → IsFront job (e ∷ before) → HasWordAddress e.act.kind
-word_address job before e valid front = (act_word job before e valid valid.typed front.0 (run_word job before valid valid.typed front.0) front.1.step).address
+pub word_address : (job : Job) (before : List Entry) (e : Entry) → IsValidJob job → IsPrefix job (e ∷ before) → HasWordAddress e.act.kind
+word_address job before e valid prefix = (act_word job before e valid valid.typed prefix.0 (run_word job before valid valid.typed prefix.0) prefix.1.step).address

@@ -10,7 +10,9 @@ use Rattle.guest_kernel.specs.declared.call.KernelStep.{KernelStep}
 use Rattle.guest_kernel.specs.declared.call.KernelStep.TheVariants.{Went}
 use Rattle.guest_kernel.specs.Calls.{Call, exit_call, alloc_call, free_call, map_call, unmap_call, read_call, write_call, unknown_call, call_of, Live, Allocates, ComesTo, IsAnswer}
 use Rattle.guest_kernel.specs.State.{State}
+use Rattle.pl_event.specs.declared.event.Kind.{Kind}
 use Rattle.pl_event.specs.declared.event.Kind.TheVariants.{Al}
+use Rattle.rv_isa.specs.declared.instruction.Instr.{Instr}
 use Rattle.rv_isa.specs.declared.instruction.Instr.TheVariants as instrs
 use Rattle.rv_isa.specs.Table.{instruction_of}
 use Rattle.rv_exec.specs.declared.effect.Effect.{Effect}
@@ -19,8 +21,8 @@ use Rattle.rv_exec.specs.Hart.{Hart, x}
 use Rattle.rv_exec.specs.Meaning.{effect_at}
 use Rattle.core_sim.specs.declared.job.Job.{Job}
 use Rattle.core_sim.specs.Entries.{Entry, state_after}
-use Rattle.core_sim.specs.Runs.{IsFront, IsNext, IsRun, IsEnded, state_of_hart}
-use Rattle.core_sim.specs.Steps.{Act, word_at, faulted, called, call_args, CanLoad, CanStore, LoadFaults, StoreFaults, IsFault, IsDone, IsFetched, IsStep}
+use Rattle.core_sim.specs.Runs.{IsPrefix, IsNext, IsRun, IsEnded, state_of_hart}
+use Rattle.core_sim.specs.Steps.{Act, goes_on, word_at, faulted, called, call_args, CanLoad, CanStore, LoadFaults, StoreFaults, IsFault, IsDone, IsFetched, IsStep, instr_at}
 
 -- a block has one lowest place
 one_place : (Taken : ℕ → ℕ → Type 0) (size a b : ℕ) → IsFirstFit Taken size a → IsFirstFit Taken size b → a ≡ b
@@ -125,7 +127,10 @@ one_access Can Why h addr done a b apart one p q = elim p [
 ]
 
 one_done : (s : State) (h : Hart) (effect : Effect) (a b : Act) → IsDone s h effect a → IsDone s h effect b → a ≡ b
-one_done s h (effects.Plain instr next) a b p q = p ∙ sym q
+one_done s h (effects.Plain instr next) a b p q =
+    let both : Some p.kind ≡ Some q.kind = sym p.row ∙ q.row in
+    let same : p.kind ≡ q.kind = cc in
+    p.act_is ∙ ap (λ (kind : Kind). goes_on kind next) same ∙ sym q.act_is
 one_done s h (effects.Load (instrs.Load width rd rs1 imm) addr) a b p q =
     one_access (CanLoad s addr (load_bytes width)) (LoadFaults s addr (load_bytes width)) h addr _ a b (load_or_fault s addr (load_bytes width)) (one_load_fault s addr (load_bytes width)) p q
 one_done s h (effects.Store (instrs.Store width rs2 rs1 imm) addr value) a b p q =
@@ -143,43 +148,44 @@ one_fetched s h (Some word) a b p q = one_done s h (effect_at h (instruction_of 
 one_step : (words : List ℕ) (s : State) (h : Hart) (a b : Act) → IsStep words s h a → IsStep words s h b → a ≡ b
 one_step words s h a b p q = one_fetched s h (word_at words h.pc) a b p q
 
-made_entry : ℕ → Act → Entry
-made_entry hart act = record { hart = hart; act = act }
+made_entry : ℕ → Option Instr → Act → Entry
+made_entry hart instr act = record { hart = hart; instr = instr; act = act }
 
-same_entry : (h k : ℕ) (a b : Act) → h ≡ k → a ≡ b → made_entry h a ≡ made_entry k b
-same_entry h k a b p q = cc
+same_entry : (h k : ℕ) (i j : Option Instr) (a b : Act) → h ≡ k → i ≡ j → a ≡ b → made_entry h i a ≡ made_entry k j b
+same_entry h k i j a b p r q = cc
 
 -- one entry may follow
 one_next : (job : Job) (before : List Entry) (a b : Entry) → IsNext job before a → IsNext job before b → a ≡ b
 unfolding made_entry
 one_next job before a b p q =
     let hart : a.hart ≡ b.hart = p.hart ∙ sym q.hart in
+    let instr : a.instr ≡ b.instr = p.instr ∙ ap (λ (h : ℕ). instr_at job.words (state_of_hart job before h).pc) hart ∙ sym q.instr in
     let step : IsStep job.words (state_after job before) (state_of_hart job before b.hart) a.act = subst (λ (h : ℕ). IsStep job.words (state_after job before) (state_of_hart job before h) a.act) hart p.step in
-    same_entry a.hart b.hart a.act b.act hart (one_step job.words (state_after job before) (state_of_hart job before b.hart) a.act b.act step q.step)
+    same_entry a.hart b.hart a.instr b.instr a.act b.act hart instr (one_step job.words (state_after job before) (state_of_hart job before b.hart) a.act b.act step q.step)
 
--- a front of each length
-pub one_front : (job : Job) (a b : List Entry) → IsFront job a → IsFront job b → length a ≡ length b → a ≡ b
-one_front job [] [] p q long = refl
-one_front job [] (f ∷ b) p q long = absurd (omega arith)
-one_front job (e ∷ a) [] p q long = absurd (omega arith)
-one_front job (e ∷ a) (f ∷ b) p q long =
-    let same : a ≡ b = one_front job a b p.0 q.0 (omega arith) in
+-- a prefix of each length
+pub one_prefix : (job : Job) (a b : List Entry) → IsPrefix job a → IsPrefix job b → length a ≡ length b → a ≡ b
+one_prefix job [] [] p q long = refl
+one_prefix job [] (f ∷ b) p q long = absurd (omega arith)
+one_prefix job (e ∷ a) [] p q long = absurd (omega arith)
+one_prefix job (e ∷ a) (f ∷ b) p q long =
+    let same : a ≡ b = one_prefix job a b p.0 q.0 (omega arith) in
     let next : IsNext job b e = subst (λ (before : List Entry). IsNext job before e) same p.1 in
     ap (λ (before : List Entry). e ∷ before) same ∙ ap (λ (g : Entry). g ∷ b) (one_next job b e f next q.1)
 
--- no front goes on past an end
-within_run : (job : Job) (a b : List Entry) → IsRun job a → IsFront job b → length b ≤ length a
-within_run job a [] run front = omega arith
-within_run job a (f ∷ b) run front =
-    let so_far : length b ≤ length a = within_run job a b run front.0 in
+-- no prefix goes on past an end
+within_run : (job : Job) (a b : List Entry) → IsRun job a → IsPrefix job b → length b ≤ length a
+within_run job a [] run prefix = omega arith
+within_run job a (f ∷ b) run prefix =
+    let so_far : length b ≤ length a = within_run job a b run prefix.0 in
     elim (cases_order (length b) (length a)) [
       | inl same ↦
-          let here : b ≡ a = one_front job b a front.0 run.front same in
+          let here : b ≡ a = one_prefix job b a prefix.0 run.prefix same in
           let ended : IsEnded job b = subst (IsEnded job) (sym here) run.ended in
-          elim ended [ inl none ↦ absurd (front.1.live none) | inr reached ↦ absurd (omega (arith, front.1.within)) ]
+          elim ended [ inl none ↦ absurd (prefix.1.live none) | inr reached ↦ absurd (omega (arith, prefix.1.within)) ]
       | inr (inl below) ↦ omega arith
       | inr (inr above) ↦ absurd (omega arith)
     ]
 
 pub one_run_of : (job : Job) (a b : List Entry) → IsRun job a → IsRun job b → a ≡ b
-one_run_of job a b p q = one_front job a b p.front q.front (omega (arith, within_run job a b p q.front, within_run job b a q p.front))
+one_run_of job a b p q = one_prefix job a b p.prefix q.prefix (omega (arith, within_run job a b p q.prefix, within_run job b a q p.prefix))

@@ -8,6 +8,12 @@ use Rattle.rv_isa.specs.declared.instruction.Instr.{Instr}
 use Rattle.rv_isa.specs.declared.instruction.Instr.TheVariants as instrs
 use Rattle.rv_exec.specs.declared.effect.Effect.{Effect}
 use Rattle.rv_exec.specs.Hart.{Hart}
+use Rattle.rv_exec.specs.Meaning.{IsPlain}
+use Rattle.core_sim.specs.declared.asked.Asked.{Asked}
+use Rattle.core_sim.specs.declared.asked.Asked.TheVariants.{Nothing, Bytes, Room, Call}
+use Rattle.core_sim.specs.declared.asked.Load.{Load}
+use Rattle.core_sim.specs.declared.asked.Store.{Store}
+use Rattle.core_sim.specs.EventKinds.{kind_of}
 use Rattle.core_sim.specs.declared.hart.HartEnd.TheVariants.{Live, Fault}
 use Rattle.core_sim.specs.declared.hart.Standing.{Standing}
 use Rattle.core_sim.specs.Steps.{Act, word_at, IsDone, IsStep, state_left}
@@ -25,6 +31,13 @@ pub record IsPlace (words : List ℕ) (pc place : ℕ) : Type 0 where
   pub within : place < length words
   pub is : word_at words pc ≡ Some (slice_index words place)
 
+-- the instruction of these fields
+abbrev pub load_of : Load → Instr
+load_of load = instrs.Load load.width load.rd load.rs1 load.imm
+
+abbrev pub store_of : Store → Instr
+store_of store = instrs.Store store.width store.rs2 store.rs1 store.imm
+
 -- the hart goes on, or has ended by a fault
 abbrev pub did_go_on : Kind → Hart → Did
 did_go_on kind next = record { kind = kind; next = record { state = next; end = Live } }
@@ -32,9 +45,12 @@ did_go_on kind next = record { kind = kind; next = record { state = next; end = 
 abbrev pub did_fault : Hart → FaultCause → ℕ → Did
 did_fault h cause addr = record { kind = Ft cause addr; next = record { state = h; end = Fault cause addr } }
 
-abbrev pub IsStore : Instr → Type 0
-IsStore (instrs.Store width rs2 rs1 imm) = Unit {0}
-IsStore _ = ⊥
+-- what an instruction asks: nothing, and then it has the event of its row, or what its fields say
+abbrev pub Asks : Instr → Asked → Type 0
+Asks instr (Nothing kind) = IsPlain instr × (kind_of instr ≡ Some kind)
+Asks instr (Bytes load) = instr ≡ load_of load
+Asks instr (Room store) = instr ≡ store_of store
+Asks instr Call = instr ≡ instrs.Ecall
 
 -- the code did what an effect comes to, and left the kernel so
 pub record DoesEffect (old new : State) (h : Hart) (effect : Effect) (did : Did) : Type 0 where

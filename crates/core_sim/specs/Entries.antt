@@ -5,6 +5,7 @@ use Rattle.guest_heap.specs.Blocks.{changed}
 use Rattle.guest_kernel.specs.State.{State}
 use Rattle.pl_event.specs.declared.event.Kind.{Kind}
 use Rattle.pl_event.specs.declared.event.Kind.TheVariants.{St, Al, Fr, Mp, Rd}
+use Rattle.rv_isa.specs.declared.instruction.Instr.{Instr}
 use Rattle.core_sim.specs.declared.job.Job.{Job}
 use Rattle.core_sim.specs.declared.hart.Standing.{Standing}
 use Rattle.core_sim.specs.Harts.{live_harts}
@@ -15,9 +16,10 @@ use Rattle.core_sim.specs.Turns.{Turned, with_current, one_more, latest_hart}
 use Rattle.pl_base.specs.declared.layout.TheConstants.{PAGE_BYTES}
 use Rattle.pl_event.specs.Mapping.{mapped_by}
 
--- one step of a run: its hart and what it came to
+-- one step of a run: its hart, the instruction that was fetched, where there was one, and what it came to
 pub record Entry : Type 0 where
   pub hart : ℕ
+  pub instr : Option Instr
   pub act : Act
 
 -- a byte of a list that was written from an address on

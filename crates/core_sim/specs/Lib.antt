@@ -1,12 +1,14 @@
 pub mod Valid
 pub mod Harts
+pub mod Draws
 pub mod Schedules
 pub mod Turns
 pub mod Start
-pub mod Events
+pub mod EventKinds
 pub mod Steps
 pub mod Entries
 pub mod Runs
+pub mod RunEvents
 pub mod Mapping
 pub mod Doing
 pub mod Image

@@ -1,5 +1,5 @@
 -- How a machine finds the turn of its next step, from the turn that it keeps.
-use Rattle.std.specs.Prelude.{◌≡◌, ◌≢◌, ℕ, ◌<◌, Option, Some, None, ◌+◌, ◌-◌, ◌*◌, ◌/◌, ◌%◌, ◌^◌, ◌&&◌, nat_le, nat_lt, if◌then◌else◌, List, [], ◌∷◌, length, drop, find, unwrap_or, slice_index}
+use Rattle.std.specs.Prelude.{◌≡◌, ◌≢◌, ℕ, ◌<◌, Option, Some, None, ◌+◌, ◌-◌, ◌/◌, ◌%◌, ◌&&◌, nat_le, nat_lt, if◌then◌else◌, List, [], ◌∷◌, length, drop, find, unwrap_or, slice_index}
 use Rattle.core_sim.specs.declared.job.Item.{Item}
 use Rattle.core_sim.specs.declared.job.Schedule.{Schedule}
 use Rattle.core_sim.specs.declared.job.Schedule.TheVariants as schedule
@@ -7,6 +7,7 @@ use Rattle.core_sim.specs.declared.turn.Place.{Place}
 use Rattle.core_sim.specs.declared.turn.Place.TheVariants.{Around, Listed, Drawn}
 use Rattle.core_sim.specs.declared.turn.Turn.{Turn}
 use Rattle.core_sim.specs.declared.hart.Standing.{Standing}
+use Rattle.core_sim.specs.Draws.{drawn}
 use Rattle.core_sim.specs.Harts.{live_harts, is_among_live}
 
 -- the turns of a list
@@ -38,10 +39,6 @@ round_turn q from live = record { hart = first_live from live; left = q; place =
 abbrev pub listed_turn : ℕ → List Item → List ℕ → Turn
 listed_turn at [] live = round_turn 1 0 live
 listed_turn at (item ∷ rest) live = if is_among_live live item.hart then record { hart = item.hart; left = item.count; place = Listed (at + 1) } else listed_turn (at + 1) rest live
-
--- the number after one of the generator
-abbrev pub drawn : ℕ → ℕ
-drawn x = (x * 1664525 + 1013904223) % 2 ^ 32
 
 -- the live hart at the place that a number names
 abbrev pub drawn_turn : ℕ → ℕ → List ℕ → Turn

@@ -1,11 +1,12 @@
 -- One step of a live hart: an instruction with all its effects, a call of the kernel, or a fault.
-use Rattle.std.specs.Prelude.{◌≡◌, ◌≢◌, ◌==◌, ℕ, ◌+◌, ◌-◌, ◌/◌, ◌%◌, ◌<◌, ◌≤◌, ◌⊎◌, ◌&&◌, false, nat_le, if◌then◌else◌, List, [], ◌++◌, Option, Some, None, take, drop, slice_get}
+use Rattle.std.specs.Prelude.{◌≡◌, ◌≢◌, ◌==◌, ℕ, ◌+◌, ◌-◌, ◌/◌, ◌%◌, ◌<◌, ◌≤◌, ◌⊎◌, ◌&&◌, false, nat_le, if◌then◌else◌, List, [], ◌++◌, Option, Some, None, option_and_then, take, drop, slice_get}
 use Rattle.std.specs.Int.{to_le_bytes, w32}
 use Rattle.pl_base.specs.declared.widths.FaultCause.{FaultCause}
 use Rattle.pl_base.specs.declared.widths.FaultCause.TheVariants.{Pc, Illegal, Align, Unmapped, ReadOnly}
 use Rattle.pl_base.specs.Widths.{load_bytes, store_bytes}
 use Rattle.pl_event.specs.declared.event.Kind.{Kind}
 use Rattle.pl_event.specs.declared.event.Kind.TheVariants.{Ld, St, Ex, Ft, Rd, Wr}
+use Rattle.rv_isa.specs.declared.instruction.Instr.{Instr}
 use Rattle.rv_isa.specs.declared.instruction.Instr.TheVariants as instrs
 use Rattle.rv_isa.specs.Table.{instruction_of}
 use Rattle.rv_exec.specs.declared.effect.Effect.{Effect}
@@ -20,7 +21,7 @@ use Rattle.guest_kernel.specs.Calls.{call_of, IsAnswer}
 use Rattle.guest_kernel.specs.State.{State, changed_by, bytes_from}
 use Rattle.core_sim.specs.declared.hart.HartEnd.TheVariants.{Live, Exit, Fault}
 use Rattle.core_sim.specs.declared.hart.Standing.{Standing}
-use Rattle.core_sim.specs.Events.{kind_of}
+use Rattle.core_sim.specs.EventKinds.{kind_of}
 use Rattle.pl_base.specs.declared.layout.TheConstants.{PAGE_BYTES, TEXT_START}
 
 -- what a step came to: the kind of its event, the bytes that it wrote, the bytes that it sent outside, and the hart
@@ -41,6 +42,10 @@ faulted h cause addr = record { kind = Ft cause addr; stored = []; sent = []; ne
 -- the word of text that an address names
 abbrev pub word_at : List ℕ → ℕ → Option ℕ
 word_at words pc = if (pc % 4 == 0) && nat_le TEXT_START pc then slice_get words ((pc - TEXT_START) / 4) else None
+
+-- the instruction that an address names, where it names a word that is one
+abbrev pub instr_at : List ℕ → ℕ → Option Instr
+instr_at words pc = option_and_then instruction_of (word_at words pc)
 
 -- none of so many bytes is text
 abbrev pub NoText : State → ℕ → ℕ → Type 0
@@ -101,9 +106,15 @@ pub record IsCalled (s : State) (h : Hart) (act : Act) : Type 0 where
   pub answer : IsAnswer (call_of (x h 17)) s (call_args h) step
   pub act_is : act ≡ called s h step
 
+-- an instruction that needs neither memory nor the kernel has the event of its row
+pub record IsPlainAct (instr : Instr) (next : Hart) (act : Act) : Type 0 where
+  pub kind : Kind
+  pub row : kind_of instr ≡ Some kind
+  pub act_is : act ≡ goes_on kind next
+
 -- what an instruction's effect comes to
 abbrev pub IsDone : State → Hart → Effect → Act → Type 0
-IsDone s h (effects.Plain instr next) act = act ≡ goes_on (kind_of instr) next
+IsDone s h (effects.Plain instr next) act = IsPlainAct instr next act
 IsDone s h (effects.Load (instrs.Load width rd rs1 imm) addr) act =
     (CanLoad s addr (load_bytes width) × (act ≡ goes_on (Ld width rd rs1 addr) (loaded h (instrs.Load width rd rs1 imm) (number_at s.bytes addr (load_bytes width)))))
     ⊎ IsFault (LoadFaults s addr (load_bytes width)) h addr act

@@ -1,9 +1,10 @@
 -- Which hart a schedule names next: a function of the turns that were begun so far and of which harts are live.
-use Rattle.std.specs.Prelude.{ℕ, zero, suc, ◌+◌, ◌*◌, ◌/◌, ◌%◌, ◌^◌, ◌==◌, ◌&&◌, Bool, false, nat_lt, if◌then◌else◌, List, [], ◌∷◌, Option, Some, None, length, map, find, unwrap_or, slice_index}
+use Rattle.std.specs.Prelude.{ℕ, ◌+◌, ◌/◌, ◌%◌, ◌==◌, ◌&&◌, Bool, false, nat_lt, if◌then◌else◌, List, [], ◌∷◌, Option, Some, None, length, map, find, unwrap_or, slice_index}
 use Rattle.std.specs.List.{list_any}
 use Rattle.core_sim.specs.declared.job.Item.{Item}
 use Rattle.core_sim.specs.declared.job.Schedule.{Schedule}
 use Rattle.core_sim.specs.declared.job.Schedule.TheVariants as schedule
+use Rattle.core_sim.specs.Draws.{drawn_after}
 use Rattle.core_sim.specs.Harts.{is_among_live}
 
 -- a turn: its hart, how many steps it was given, and how many of them were taken
@@ -49,11 +50,6 @@ abbrev pub listed : Option Item → List ℕ → List ℕ → Turned
 listed (Some item) behind live = begun item.hart item.count
 listed None behind live = begun (round_hart behind live) 1
 
--- the number of a draw, where the first is draw 1
-abbrev pub draw : ℕ → ℕ → ℕ
-draw n zero = n
-draw n (suc before) = (draw n before * 1664525 + 1013904223) % 2 ^ 32
-
 -- the live hart at the place that a number names
 abbrev pub drawn_hart : ℕ → List ℕ → ℕ
 drawn_hart x live = slice_index live (x / 65536 % length live)
@@ -62,7 +58,7 @@ drawn_hart x live = slice_index live (x / 65536 % length live)
 abbrev pub next_begun : Schedule → List ℕ → List ℕ → Turned
 next_begun (schedule.Rr q) past live = begun (round_hart past live) q
 next_begun (schedule.List items) past live = listed (next_item items past live) (behind_list items past) live
-next_begun (schedule.Seed n q) past live = begun (drawn_hart (draw n (length past + 1)) live) q
+next_begun (schedule.Seed n q) past live = begun (drawn_hart (drawn_after n (length past + 1)) live) q
 
 -- steps are left of the latest turn, and its hart is live
 abbrev pub goes_on : List Turned → List ℕ → Bool

@@ -6,14 +6,14 @@
 //! A machine keeps the text, of which each word was read once, the kernel, the harts side by side and the turn that
 //! goes on. A step fetches one instruction by its pc and does it whole, to the hart in its place; a load or a store
 //! is one look-up of memory. Contracts say which
-//! front of the job's one run a machine stands for: a run is a list of entries, in which memory, blocks, harts and
+//! prefix of the job's one run a machine stands for: a run is a list of entries, in which memory, blocks, harts and
 //! turns are looked up.
 #![tactic(auto)]
 
+mod asked;
 mod group;
 mod hart;
 mod job;
-mod kinds;
 mod laws;
 mod machine;
 mod start;
@@ -24,7 +24,7 @@ mod turn;
 pub use group::{EventGroup, StepOut};
 pub use hart::HartEnd;
 pub use job::{Bytes, Item, Items, Job, Schedule, Words};
-pub use laws::{one_run, valid_events};
+pub use laws::{has_run, one_run, opening_pages, run_events};
 pub use machine::Machine;
 pub use start::start_pages;
 pub use turn::next_draw;

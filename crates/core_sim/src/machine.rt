@@ -4,7 +4,7 @@ ghost use Rattle.core_sim.specs.declared.job.Job.{Job};
 ghost use Rattle.core_sim.specs.Entries.{Entry};
 ghost use Rattle.core_sim.specs.Schedules.{items_of};
 ghost use Rattle.core_sim.specs.Start.{begin_from};
-ghost use Rattle.core_sim.specs.Stands.{Stands, Comes};
+ghost use Rattle.core_sim.specs.Stands.{Stands, CanGoOn, Comes};
 ghost use Rattle.core_sim.specs.Valid.{IsValidJob};
 ghost use Rattle.pl_base.specs.declared.layout.TheConstants.{MAX_HARTS};
 
@@ -83,11 +83,13 @@ impl Machine {
     ///
     /// # Errors
     ///
-    /// After `NoMemory` all is as before.
+    /// `NoMemory` where a hart is live, the limit is not reached, and no memory was left. All is as before then.
     pub fn step(&mut self) -> Result<StepOut, NoMemory>
         ensures comes { IfOk result (λ out. (job : Job) (entries : List Entry) →
             Stands job entries self.old → Comes job entries self.old self.new out) }
         ensures unchanged { OnErr result (self.new ≡ self.old) }
+        ensures memory { OnErr result ((job : Job) (entries : List Entry) →
+            Stands job entries self.old → CanGoOn job entries) }
     {
         let Some(turn) = self.turn.of_step(self.items.as_slice(), &self.harts) else {
             return Ok(StepOut::Halted);

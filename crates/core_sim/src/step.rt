@@ -3,19 +3,18 @@ ghost use Rattle.std.specs.Prelude.{◌≡◌, ◌==◌, ◌%◌, IfOk, OnErr};
 ghost use Rattle.pl_base.specs.Widths.{load_bytes, store_bytes};
 ghost use Rattle.rv_isa.specs.Valid.{IsValid};
 ghost use Rattle.rv_exec.specs.declared.effect.Effect.{Effect};
-ghost use Rattle.rv_exec.specs.Meaning.{IsLoad};
+ghost use Rattle.rv_exec.specs.Meaning.{effect_of};
 ghost use Rattle.guest_kernel.specs.State.{state_of};
-ghost use Rattle.core_sim.specs.Doing.{did, did_go_on, did_fault, Does, DoesEffect, IsStore};
+ghost use Rattle.core_sim.specs.Doing.{did, did_go_on, did_fault, load_of, store_of, Does, DoesEffect};
 
+use crate::asked::{Asked, Load, Store, asked_by};
 use crate::hart::{HartEnd, Standing};
-use crate::kinds::kind_of;
 use crate::text::Text;
 use guest_kernel::{CallArgs, Kernel, KernelStep};
 use guest_mem::MemFault;
 use pl_base::{FaultCause, LoadWidth, NoMemory, StoreWidth};
 use pl_event::Kind;
-use rv_exec::{HartState, Wanted, advance, end_call, end_load, end_store};
-use rv_isa::Instr;
+use rv_exec::{HartState, advance, end_call, end_load, end_store};
 
 /// Takes one step of a hart, and gives the kind of its event. Where memory ran out the kernel and the hart are as
 /// before.
@@ -33,11 +32,14 @@ pub fn execute(text: &Text, kernel: &mut Kernel, hart: &mut Standing) -> Result<
     let Some(instr) = text.instruction(place) else {
         return Ok(fault(hart, FaultCause::Illegal, pc));
     };
-    match advance(&mut hart.state, instr) {
-        Wanted::Nothing => Ok(goes_on(hart, kind_of(instr))),
-        Wanted::Bytes { addr } => Ok(load(kernel, hart, instr, addr)),
-        Wanted::Room { addr, value } => Ok(store(kernel, hart, instr, addr, value)),
-        Wanted::Kernel => call(kernel, hart),
+    match asked_by(instr) {
+        Asked::Nothing { kind } => {
+            advance(&mut hart.state, instr);
+            Ok(goes_on(hart, kind))
+        }
+        Asked::Bytes { load } => Ok(do_load(kernel, hart, load)),
+        Asked::Room { store } => Ok(do_store(kernel, hart, store)),
+        Asked::Call => call(kernel, hart),
     }
 }
 
@@ -66,33 +68,24 @@ fn fault(hart: &mut Standing, cause: FaultCause, addr: u32) -> Kind
     Kind::Ft { cause, addr }
 }
 
-/// Does a load from an address.
+/// Does a load.
 #[inline]
-fn load(kernel: &Kernel, hart: &mut Standing, instr: &Instr, addr: u32) -> Kind
-    requires valid { IsValid instr.now }
-    requires load { IsLoad instr.now }
+fn do_load(kernel: &Kernel, hart: &mut Standing, load: Load) -> Kind
+    requires { IsValid (load_of load) }
     ensures { DoesEffect (state_of kernel.now) (state_of kernel.now)
-        hart.old.state (Effect.Load instr.now addr) (did result hart.new) }
+        hart.old.state (effect_of hart.old.state (load_of load)) (did result hart.new) }
 {
-    let Instr::Load {
-        width,
-        rd,
-        rs1,
-        imm: _,
-    } = *instr
-    else {
-        unreachable!()
-    };
-    if !is_load_aligned(width, addr) {
+    let addr = hart.state.address(load.rs1, load.imm);
+    if !is_load_aligned(load.width, addr) {
         return fault(hart, FaultCause::Align, addr);
     }
-    match kernel.mem().read(addr, width.bytes()) {
+    match kernel.mem().read(addr, load.width.bytes()) {
         Ok(raw) => {
-            end_load(&mut hart.state, instr, raw);
+            end_load(&mut hart.state, load.width, load.rd, raw);
             let kind = Kind::Ld {
-                width,
-                rd,
-                rb: rs1,
+                width: load.width,
+                rd: load.rd,
+                rb: load.rs1,
                 addr,
             };
             goes_on(hart, kind)
@@ -113,32 +106,25 @@ fn is_load_aligned(width: LoadWidth, addr: u32) -> bool
     }
 }
 
-/// Does a store of a register's value to an address.
+/// Does a store of a register's value.
 #[inline]
-fn store(kernel: &mut Kernel, hart: &mut Standing, instr: &Instr, addr: u32, value: u32) -> Kind
-    requires { IsStore instr.now }
+fn do_store(kernel: &mut Kernel, hart: &mut Standing, store: Store) -> Kind
+    requires { IsValid (store_of store) }
     ensures { DoesEffect (state_of kernel.old) (state_of kernel.new)
-        hart.old.state (Effect.Store instr.now addr value) (did result hart.new) }
+        hart.old.state (effect_of hart.old.state (store_of store)) (did result hart.new) }
 {
-    let Instr::Store {
-        width,
-        rs2,
-        rs1,
-        imm: _,
-    } = *instr
-    else {
-        unreachable!()
-    };
-    if !is_store_aligned(width, addr) {
+    let addr = hart.state.address(store.rs1, store.imm);
+    let value = hart.state.reg(store.rs2);
+    if !is_store_aligned(store.width, addr) {
         return fault(hart, FaultCause::Align, addr);
     }
-    match kernel.mem_mut().write(addr, width.bytes(), value) {
+    match kernel.mem_mut().write(addr, store.width.bytes(), value) {
         Ok(()) => {
             end_store(&mut hart.state);
             let kind = Kind::St {
-                width,
-                rv: rs2,
-                rb: rs1,
+                width: store.width,
+                rv: store.rs2,
+                rb: store.rs1,
                 addr,
             };
             goes_on(hart, kind)

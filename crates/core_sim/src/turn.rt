@@ -1,7 +1,8 @@
 //! Whose turn it is.
 ghost use Rattle.std.specs.Prelude.{◌≡◌, ◌≤◌, ◌<◌, ◌&&◌, Some, length, drop, find, count_by, slice_get, nat_le, nat_lt, IfSome, IfNone};
+ghost use Rattle.core_sim.specs.Draws.{drawn};
 ghost use Rattle.core_sim.specs.Harts.{is_live, live_harts, is_among_live};
-ghost use Rattle.core_sim.specs.Schedules.{round_turn, listed_turn, drawn_turn, turn_of_step, stepped, drawn, no_turn, IsTurnOf};
+ghost use Rattle.core_sim.specs.Schedules.{round_turn, listed_turn, drawn_turn, turn_of_step, stepped, no_turn, IsTurnOf};
 ghost use Rattle.pl_base.specs.declared.layout.TheConstants.{MAX_HARTS};
 
 use crate::hart::Standing;

@@ -19,7 +19,8 @@ use Rattle.core_sim.specs.Valid.{IsSchedule, HasTypedNumbers, IsValidJob}
 use Rattle.guest_asm.specs.declared.action.Action.{Action}
 use Rattle.guest_asm.specs.declared.action.Action.TheVariants.{LoadWord, StoreWord, LoadByte, Add, StoreBlock, LoadBlock, Read, Xor}
 use Rattle.guest_asm.specs.Jobs.{coded}
-use Rattle.guest_asm.specs.Generated.{t0, t1, t2, s0, s1, a0, a1, a2, a7, add_to, set_to, drawn_after, choice, action_numbered, into_data, into_block, instructions_of, action_at, setup, finish, hart_code, program, IsGenerated}
+use Rattle.core_sim.specs.Draws.{drawn_after}
+use Rattle.guest_asm.specs.Generated.{t0, t1, t2, s0, s1, a0, a1, a2, a7, add_to, set_to, choice, action_numbered, into_data, into_block, instructions_of, action_at, setup, finish, hart_code, program, IsGenerated}
 use Rattle.guest_asm.proofs.Lengths.{length-cells}
 use Rattle.guest_asm.proofs.One.{same_words, same_job}
 

@@ -4,10 +4,10 @@ use Rattle.std.specs.List.{flat_map, range_with_len}
 use Rattle.std.proofs.lemmas.List.{flat_map_more, map_more}
 use Rattle.std.proofs.lemmas.List.FromFn.{map-range_with_len_more}
 use Rattle.rv_isa.specs.declared.instruction.Instr.{Instr}
-use Rattle.core_sim.specs.Schedules.{drawn}
+use Rattle.core_sim.specs.Draws.{drawn, drawn_after}
 use Rattle.guest_asm.specs.Jobs.{Cell, coded, IsCell, AreCells}
 use Rattle.guest_asm.proofs.Building.{AreCells-append}
-use Rattle.guest_asm.specs.Generated.{drawn_after, choice, action_numbered, instructions_of, action_at, hart_code, code_of_first, entry, entries}
+use Rattle.guest_asm.specs.Generated.{choice, action_numbered, instructions_of, action_at, hart_code, code_of_first, entry, entries}
 
 -- one number more
 pub range-more : (n : ℕ) → range_with_len 0 (n + 1) ≡ range_with_len 0 n ++ n ∷ []

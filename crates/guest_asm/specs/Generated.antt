@@ -1,5 +1,5 @@
 -- The job that is drawn from a number: four harts, each with so many drawn actions.
-use Rattle.std.specs.Prelude.{◌≡◌, ℕ, zero, suc, ◌+◌, ◌*◌, ◌/◌, ◌%◌, List, [], ◌∷◌, ◌++◌, length, map, replicate, get_or, ℤ, pos}
+use Rattle.std.specs.Prelude.{◌≡◌, ℕ, ◌+◌, ◌*◌, ◌/◌, ◌%◌, List, [], ◌∷◌, ◌++◌, length, map, replicate, get_or, ℤ, pos}
 use Rattle.std.specs.List.{flat_map, range_with_len}
 use Rattle.pl_base.specs.declared.widths.LoadWidth.TheVariants as loads
 use Rattle.pl_base.specs.declared.widths.StoreWidth.TheVariants as stores
@@ -7,7 +7,7 @@ use Rattle.rv_isa.specs.declared.instruction.ImmOp.TheVariants.{Addi}
 use Rattle.rv_isa.specs.declared.instruction.RegOp.TheVariants as registers
 use Rattle.rv_isa.specs.declared.instruction.Instr.{Instr}
 use Rattle.rv_isa.specs.declared.instruction.Instr.TheVariants as instr
-use Rattle.core_sim.specs.Schedules.{drawn}
+use Rattle.core_sim.specs.Draws.{drawn_after}
 use Rattle.core_sim.specs.declared.job.Job.{Job}
 use Rattle.core_sim.specs.declared.job.Schedule.TheVariants as schedule
 use Rattle.guest_asm.specs.declared.action.Action.{Action}
@@ -51,11 +51,6 @@ add_to rd rs1 imm = instr.OpImm Addi rd rs1 imm
 -- a number into a register
 abbrev pub set_to : ℕ → ℤ → Instr
 set_to rd imm = add_to rd 0 imm
-
--- the state of the draws after so many draws from a number; each step is that of a drawn schedule
-abbrev pub drawn_after : ℕ → ℕ → ℕ
-drawn_after x zero = x
-drawn_after x (suc n) = drawn (drawn_after x n)
 
 -- which of so many numbers, from 0 on, a state draws
 abbrev pub choice : ℕ → ℕ → ℕ

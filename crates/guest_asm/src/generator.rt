@@ -2,11 +2,11 @@
 ghost use Rattle.std.specs.Prelude.{◌≡◌, ◌≤◌, ◌<◌, ◌+◌, ◌*◌, ◌++◌, [], map, length, replicate, All, IfOk, OnOk};
 ghost use Rattle.std.specs.List.{range_with_len, flat_map};
 ghost use Rattle.rv_isa.specs.Valid.{IsValid};
-ghost use Rattle.core_sim.specs.Schedules.{drawn};
+ghost use Rattle.core_sim.specs.Draws.{drawn, drawn_after};
 ghost use Rattle.core_sim.specs.Valid.{HasTypedNumbers, IsValidJob};
 ghost use Rattle.core_sim.specs.declared.job.Job.{Job};
 ghost use Rattle.guest_asm.specs.Jobs.{coded, AreCells};
-ghost use Rattle.guest_asm.specs.Generated.{choice, drawn_after, action_at, setup, finish, hart_code, program, entries, IsGenerated};
+ghost use Rattle.guest_asm.specs.Generated.{choice, action_at, setup, finish, hart_code, program, entries, IsGenerated};
 ghost use Rattle.pl_base.specs.declared.layout.TheConstants.{MAX_TEXT_WORDS};
 
 use crate::action::{A0, A7, S0, S1, action_numbered, add_to, push_action, set_to};

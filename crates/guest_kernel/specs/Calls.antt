@@ -98,3 +98,11 @@ IsAnswer unmap_call s args step = ComesTo (CanUnmap s args.a0 args.a1) (Went 0 (
 IsAnswer read_call s args step = let count = min args.a2 (length s.input) in ComesTo (CanRead s args.a1 args.a2) (moved count (Rd args.a1 count)) step
 IsAnswer write_call s args step = ComesTo (CanWrite s args.a1 args.a2) (moved args.a2 (Wr args.a1 args.a2)) step
 IsAnswer unknown_call s args step = step ≡ failure
+
+-- which calls ask for memory: an alloc, a free, and a map or a write that succeeds
+abbrev pub AsksForMemory : Call → State → CallArgs → Type 0
+AsksForMemory alloc_call s args = Unit {0}
+AsksForMemory free_call s args = Unit {0}
+AsksForMemory map_call s args = CanMap s args.a0 args.a1
+AsksForMemory write_call s args = CanWrite s args.a1 args.a2
+AsksForMemory _ s args = ⊥

@@ -1,10 +1,9 @@
 //! The kernel of the guest: memory, heap, input and output.
-ghost use Rattle.std.specs.Prelude.{◌≡◌, ◌+◌, ◌*◌, ◌^◌, ◌≤◌, length, vec_len, IfOk, OnErr};
-ghost use Rattle.std.specs.Bool.{OnTrue, OnFalse};
+ghost use Rattle.std.specs.Prelude.{◌≡◌, ◌+◌, ◌*◌, ◌^◌, ◌≤◌, length, vec_len, IfOk, OnOk, OnErr};
 ghost use Rattle.guest_mem.specs.Bytes.{AllMapped};
 ghost use Rattle.guest_mem.specs.Memory.{bytes};
 ghost use Rattle.guest_kernel.specs.Moves.{Appends};
-ghost use Rattle.guest_kernel.specs.Calls.{call_of, IsAnswer, alloc_call, free_call, map_call, unmap_call, read_call, write_call, failure, moved};
+ghost use Rattle.guest_kernel.specs.Calls.{call_of, AsksForMemory, IsAnswer, alloc_call, free_call, map_call, unmap_call, read_call, write_call, failure, moved};
 ghost use Rattle.guest_kernel.specs.State.{state_of, started, after};
 ghost use Rattle.guest_kernel.specs.Lending.{LendsMemory};
 ghost use Rattle.std.specs.Borrow.{sem};
@@ -71,18 +70,20 @@ impl Kernel {
     ///
     /// # Errors
     ///
-    /// After `NoMemory` all is as before.
+    /// `NoMemory` at an alloc or a free, and at a map or a write that would succeed, where none was left. All is as
+    /// before then.
     pub fn call(&mut self, args: CallArgs) -> Result<KernelStep, NoMemory>
         ensures answer { IfOk result (IsAnswer (call_of args.a7) (state_of self.old) args) }
         ensures after { IfOk result (λ step. state_of self.new ≡ after (state_of self.old) step) }
         ensures unchanged { OnErr result (self.new ≡ self.old) }
+        ensures memory { OnErr result (AsksForMemory (call_of args.a7) (state_of self.old) args) }
     {
         match args.a7 {
             1 => Ok(KernelStep::Ended { code: args.a0 }),
             2 => self.alloc(args),
             3 => self.free(args),
             4 => self.map(args),
-            5 => self.unmap(args),
+            5 => Ok(self.unmap(args)),
             6 => Ok(self.read(args)),
             7 => self.write(args),
             _ => Ok(failed()),
@@ -142,6 +143,7 @@ impl Kernel {
         ensures answer { IfOk result (IsAnswer map_call (state_of self.old) args) }
         ensures after { IfOk result (λ step. state_of self.new ≡ after (state_of self.old) step) }
         ensures unchanged { OnErr result (self.new ≡ self.old) }
+        ensures memory { OnErr result (AsksForMemory map_call (state_of self.old) args) }
     {
         let Some(Pages { first: page, count }) = map_pages(args.a0, args.a1) else {
             return Ok(failed());
@@ -154,17 +156,16 @@ impl Kernel {
     }
 
     /// Unmaps a1 pages from address a0 on.
-    fn unmap(&mut self, args: CallArgs) -> Result<KernelStep, NoMemory>
-        ensures answer { IfOk result (IsAnswer unmap_call (state_of self.old) args) }
-        ensures after { IfOk result (λ step. state_of self.new ≡ after (state_of self.old) step) }
-        ensures unchanged { OnErr result (self.new ≡ self.old) }
+    fn unmap(&mut self, args: CallArgs) -> KernelStep
+        ensures answer { IsAnswer unmap_call (state_of self.old) args result }
+        ensures after { state_of self.new ≡ after (state_of self.old) result }
     {
         let Some(Pages { first: page, count }) = map_pages(args.a0, args.a1) else {
-            return Ok(failed());
+            return failed();
         };
         match self.mem.unmap(page, count) {
-            Ok(()) => Ok(went(0, Kind::Um { page, count })),
-            Err(_) => Ok(failed()),
+            Ok(()) => went(0, Kind::Um { page, count }),
+            Err(_) => failed(),
         }
     }
 
@@ -189,16 +190,15 @@ impl Kernel {
         ensures answer { IfOk result (IsAnswer write_call (state_of self.old) args) }
         ensures after { IfOk result (λ step. state_of self.new ≡ after (state_of self.old) step) }
         ensures unchanged { OnErr result (self.new ≡ self.old) }
+        ensures memory { OnErr result (AsksForMemory write_call (state_of self.old) args) }
     {
-        if args.a2 > MAX_CALL_BYTES {
+        if args.a2 > MAX_CALL_BYTES || !self.mem.can_read(args.a1, args.a2) {
             return Ok(failed());
         }
         if self.output.len() + args.a2 as usize > MAX_OUTPUT_BYTES as usize {
             return Ok(failed());
         }
-        if !append_bytes(&self.mem, args.a1, args.a2, &mut self.output)? {
-            return Ok(failed());
-        }
+        append_bytes(&self.mem, args.a1, args.a2, &mut self.output)?;
         let len = args.a2;
         Ok(moved(len, Kind::Wr { addr: args.a1, len }))
     }
@@ -226,22 +226,18 @@ fn moved(count: u32, kind: Kind) -> KernelStep
     went(count, kind)
 }
 
-/// Appends the bytes from an address on, so many of them, to a list, and says whether all of them are mapped. The list
-/// stays where they are not, and where no memory was left.
-fn append_bytes(mem: &PagedMem, addr: u32, count: u32, list: &mut Vec<u8>) -> Result<bool, NoMemory>
-    requires { vec_len list.old + count ≤ 2 * MAX_OUTPUT_BYTES }
-    ensures moved { IfOk result (λ all. OnTrue all (Appends mem.now addr count list.old.items list.new.items)) }
-    ensures none { IfOk result (λ all. OnFalse all (AllMapped (bytes mem.now) addr count → ⊥)) }
-    ensures kept { IfOk result (λ all. OnFalse all (list.new.items ≡ list.old.items)) }
+/// Appends the bytes from an address on, so many of them and all of them mapped, to a list, which stays where no memory
+/// was left.
+fn append_bytes(mem: &PagedMem, addr: u32, count: u32, list: &mut Vec<u8>) -> Result<(), NoMemory>
+    requires mapped { AllMapped (bytes mem.now) addr count }
+    requires few { vec_len list.old + count ≤ 2 * MAX_OUTPUT_BYTES }
+    ensures moved { OnOk result (Appends mem.now addr count list.old.items list.new.items) }
     ensures unchanged { OnErr result (list.new.items ≡ list.old.items) }
 {
     let before = list.len();
     list.resize(before + count as usize, 0)?;
     match mem.read_bytes(addr, &mut list[before..]) {
-        Ok(()) => Ok(true),
-        Err(_) => {
-            list.truncate(before);
-            Ok(false)
-        }
+        Ok(()) => Ok(()),
+        Err(_) => unreachable!(),
     }
 }

@@ -227,6 +227,14 @@ impl PagedMem {
         Ok(())
     }
 
+    /// Whether each of `count` addresses from `addr` on can be read: all lie on mapped pages.
+    pub fn can_read(&self, addr: u32, count: u32) -> bool
+        ensures { MatchBool result (AllMapped (bytes self.now) addr count)
+            (AllMapped (bytes self.now) addr count → ⊥) }
+    {
+        self.first_unmapped(addr, count as usize).is_none()
+    }
+
     /// Whether each of `count` addresses from `addr` on can be written: all lie on mapped pages, and none on text.
     pub fn can_write(&self, addr: u32, count: u32) -> bool
         ensures { MatchBool result (IsWritable self.now addr count) (IsWritable self.now addr count → ⊥) }

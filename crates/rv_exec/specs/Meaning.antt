@@ -119,6 +119,13 @@ abbrev pub effect_at : Hart → Option Instr → Effect
 effect_at h None = Illegal
 effect_at h (Some i) = effect_of h i
 
+-- an instruction that needs neither memory nor the kernel
+abbrev pub IsPlain : Instr → Type 0
+IsPlain (instrs.Load width rd rs1 imm) = ⊥
+IsPlain (instrs.Store width rs2 rs1 imm) = ⊥
+IsPlain instrs.Ecall = ⊥
+IsPlain _ = Unit {0}
+
 abbrev pub IsLoad : Instr → Type 0
 IsLoad (instrs.Load width rd rs1 imm) = Unit {0}
 IsLoad _ = ⊥

@@ -16,16 +16,3 @@ pub enum Effect {
     /// The word is no instruction.
     Illegal,
 }
-
-/// What an instruction still wants after all of it that needs no memory was done to the hart itself.
-#[derive(Clone, Copy, Debug, PartialEq, Eq)]
-pub enum Wanted {
-    /// Nothing: all is done.
-    Nothing,
-    /// The bytes from `addr`, for `end_load`; the hart has not changed.
-    Bytes { addr: u32 },
-    /// The low bytes of `value` stored from `addr`, and then `end_store`; the hart has not changed.
-    Room { addr: u32, value: u32 },
-    /// A call of the kernel, and then `end_call`; the hart has not changed.
-    Kernel,
-}

@@ -27,6 +27,7 @@ impl Model for HartState {
 impl HartState {
     ghost use Rattle.std.specs.Prelude.{◌≡◌, ◌<◌, ◌+◌, ◌%◌, ◌^◌};
     ghost use Rattle.rv_exec.specs.Hart.{x, written, started};
+    ghost use Rattle.rv_exec.specs.Meaning.{moved};
 
     /// A hart at its entry: a0 is its number, sp the end of its stack, and every other register 0.
     pub fn start(pc: u32, hart: u8) -> HartState
@@ -46,6 +47,15 @@ impl HartState {
         ensures zero { r ≡ 0 → result ≡ 0 }
     {
         self.registers[r as usize]
+    }
+
+    /// The address that lies so many bytes from the one in register `r`.
+    #[inline]
+    pub fn address(&self, r: u8, offset: i32) -> u32
+        requires { r < 32 }
+        ensures { result ≡ moved (x self.now r) offset }
+    {
+        self.reg(r).wrapping_add_signed(offset)
     }
 
     /// Writes register `rd`, which register 0 does not take, and goes on at `pc`.

@@ -2,13 +2,12 @@
 ghost use Rattle.std.specs.Prelude.{◌≡◌, ◌<◌, ◌↔◌, IsNone};
 ghost use Rattle.rv_isa.specs.Table.{instruction_of};
 ghost use Rattle.rv_isa.specs.Valid.{IsValid};
-ghost use Rattle.rv_exec.specs.Advance.{Advances};
-ghost use Rattle.rv_exec.specs.Hart.{x};
-ghost use Rattle.rv_exec.specs.Meaning.{moved, effect_of, effect_at, IsLoad, loaded, after, at_pc, next_pc};
+ghost use Rattle.rv_exec.specs.Meaning.{effect_of, effect_at, extended, IsLoad, IsPlain, loaded, after, at_pc, next_pc};
 
 use crate::arithmetic::{extended, is_taken, on_registers, operate};
-use crate::effect::{Effect, Wanted};
+use crate::effect::Effect;
 use crate::hart::HartState;
+use pl_base::LoadWidth;
 use rv_isa::{Instr, decode};
 
 /// What the instruction `word` at the hart's pc does.
@@ -26,22 +25,32 @@ fn effect(state: &HartState, instr: &Instr) -> Effect
     requires { IsValid instr.now }
     ensures { result ≡ effect_of state.now instr.now }
 {
-    let mut next = *state;
     let instr = *instr;
-    match advance(&mut next, &instr) {
-        Wanted::Nothing => Effect::Plain { instr, next },
-        Wanted::Bytes { addr } => Effect::Load { instr, addr },
-        Wanted::Room { addr, value } => Effect::Store { instr, addr, value },
-        Wanted::Kernel => Effect::Call,
+    match instr {
+        Instr::Load { rs1, imm, .. } => Effect::Load {
+            instr,
+            addr: state.address(rs1, imm),
+        },
+        Instr::Store { rs2, rs1, imm, .. } => Effect::Store {
+            instr,
+            addr: state.address(rs1, imm),
+            value: state.reg(rs2),
+        },
+        Instr::Ecall => Effect::Call,
+        _ => {
+            let mut next = *state;
+            advance(&mut next, &instr);
+            Effect::Plain { instr, next }
+        }
     }
 }
 
-/// Does an instruction to the hart itself, as far as it needs no memory, and tells what it still wants: the hart has
-/// changed exactly where that is nothing.
+/// Does an instruction that needs neither memory nor the kernel to the hart itself.
 #[inline]
-pub fn advance(state: &mut HartState, instr: &Instr) -> Wanted
-    requires { IsValid instr.now }
-    ensures { Advances state.old instr.now state.new result }
+pub fn advance(state: &mut HartState, instr: &Instr)
+    requires valid { IsValid instr.now }
+    requires plain { IsPlain instr.now }
+    ensures { effect_of state.old instr.now ≡ Effect.Plain instr.now state.new }
 {
     let next_pc = state.next_pc();
     match *instr {
@@ -51,7 +60,7 @@ pub fn advance(state: &mut HartState, instr: &Instr) -> Wanted
         }
         Instr::Jal { rd, off } => state.put(rd, next_pc, state.pc.wrapping_add_signed(off)),
         Instr::Jalr { rd, rs1, imm } => {
-            let target = state.reg(rs1).wrapping_add_signed(imm) / 2 * 2;
+            let target = state.address(rs1, imm) / 2 * 2;
             state.put(rd, next_pc, target)
         }
         Instr::Branch { op, rs1, rs2, off } => {
@@ -61,8 +70,6 @@ pub fn advance(state: &mut HartState, instr: &Instr) -> Wanted
                 state.go(next_pc)
             }
         }
-        Instr::Load { rs1, imm, .. } => return load(state, rs1, imm),
-        Instr::Store { rs2, rs1, imm, .. } => return store(state, rs2, rs1, imm),
         Instr::OpImm { op, rd, rs1, imm } => {
             let value = operate(on_registers(op), state.reg(rs1), imm.cast_unsigned());
             state.put(rd, value, next_pc)
@@ -71,44 +78,18 @@ pub fn advance(state: &mut HartState, instr: &Instr) -> Wanted
             state.put(rd, operate(op, state.reg(rs1), state.reg(rs2)), next_pc)
         }
         Instr::Fence { bits: _ } => state.go(next_pc),
-        Instr::Ecall => return Wanted::Kernel,
-    }
-    Wanted::Nothing
-}
-
-#[inline]
-fn load(state: &HartState, rs1: u8, imm: i32) -> Wanted
-    requires { rs1 < 32 }
-    ensures { result ≡ Wanted.Bytes (moved (x state.now rs1) imm) }
-{
-    Wanted::Bytes {
-        addr: state.reg(rs1).wrapping_add_signed(imm),
-    }
-}
-
-#[inline]
-fn store(state: &HartState, rs2: u8, rs1: u8, imm: i32) -> Wanted
-    requires { (rs2 < 32) × (rs1 < 32) }
-    ensures { result ≡ Wanted.Room (moved (x state.now rs1) imm) (x state.now rs2) }
-{
-    Wanted::Room {
-        addr: state.reg(rs1).wrapping_add_signed(imm),
-        value: state.reg(rs2),
+        Instr::Load { .. } | Instr::Store { .. } | Instr::Ecall => {}
     }
 }
 
 /// Ends a load in the hart itself, whose bytes, read as one little-endian number, are `raw`: writes its register and
 /// goes on to the next instruction.
 #[inline]
-pub fn end_load(state: &mut HartState, instr: &Instr, raw: u32)
-    requires valid { IsValid instr.now }
-    requires load { IsLoad instr.now }
-    ensures { state.new ≡ loaded state.old instr.now raw }
+pub fn end_load(state: &mut HartState, width: LoadWidth, rd: u8, raw: u32)
+    requires { rd < 32 }
+    ensures { state.new ≡ after state.old rd (extended width raw) (next_pc state.old) }
 {
-    match *instr {
-        Instr::Load { width, rd, .. } => state.put(rd, extended(width, raw), state.next_pc()),
-        _ => unreachable!(),
-    }
+    state.put(rd, extended(width, raw), state.next_pc());
 }
 
 /// Ends a store in the hart itself: goes on to the next instruction.
@@ -134,7 +115,9 @@ pub fn finish_load(state: &HartState, instr: &Instr, raw: u32) -> HartState
     ensures { result ≡ loaded state.now instr.now raw }
 {
     let mut next = *state;
-    end_load(&mut next, instr, raw);
+    if let Instr::Load { width, rd, .. } = *instr {
+        end_load(&mut next, width, rd, raw);
+    }
     next
 }
 

@@ -1,10 +1,9 @@
 use Rattle.std.proofs.Common.{◌≡◌, Some, None, slice_index, sym, ◌∙◌, ap}
 use Rattle.pl_base.specs.declared.widths.FaultCause.TheVariants.{Pc, Illegal}
-use Rattle.pl_event.specs.declared.event.Kind.{Kind}
 use Rattle.rv_isa.specs.Table.{instruction_of}
 use Rattle.rv_exec.specs.Meaning.{effect_at}
 use Rattle.rv_exec.specs.declared.effect.Effect.TheVariants as effects
-use Rattle.core_sim.specs.Doing.{did_go_on, did_fault}
+use Rattle.core_sim.specs.Doing.{did_fault}
 use Rattle.core_sim.specs.Steps.{word_at}
 use Rattle.core_sim.proofs.Doings.{does_none, does_some, plain_does, illegal_does}
 use Rattle.core_sim.proofs.step.execute.Goals as goal
@@ -31,5 +30,5 @@ returns-in-Nothing-clause-did c =
     let pc : c.pc_of-pc.result ≡ c.args.hart.now.state.pc = c.pc_of-pc.ensures in
     let word = slice_index c.args.text.now c.in-Some.place in
     let some : word_at c.args.text.now c.args.hart.now.state.pc ≡ Some word = ap (word_at c.args.text.now) (sym pc) ∙ c.in-Some.ensures.some.is in
-    does_some _ _ _ _ _ word _ some (ap (effect_at h) (sym c.instruction.ensures.value ∙ c.in-Some-instruction.is) ∙ c.in-Nothing.ensures)
-    (plain_does _ _ _ c.advance.new.state _ (c.goes_on.ensures ∙ ap (λ (kind : Kind). did_go_on kind c.advance.new.state) c.kind_of.ensures))
+    does_some _ _ _ _ _ word _ some (ap (effect_at h) (sym c.instruction.ensures.value ∙ c.in-Some-instruction.is) ∙ c.advance.ensures)
+    (plain_does _ _ _ c.advance.new.state c.in-Nothing.kind _ c.in-Nothing.ensures.1 c.goes_on.ensures)

@@ -3,8 +3,8 @@ use Rattle.std.proofs.lemmas.List.{length-drop, drop_all}
 use Rattle.guest_kernel.proofs.Moves.{appended, behind}
 use Rattle.guest_kernel.proofs.kernel.append_bytes.Goals as goal
 
-pub returns-in-Ok-clause-moved : goal.returns-in-Ok-clause-moved
-returns-in-Ok-clause-moved c =
+pub returns-clause-moved : goal.returns-clause-moved
+returns-clause-moved c =
     let before = c.len-before.result in
     let room = c.deref_mut.result.now in
     let size : length c.deref_mut.result.now ≡ c.len-before.result + c.args.count = c.deref_mut.ensures.len ∙ c.in_ok-resize.ensures.len in

@@ -8,7 +8,7 @@ use Rattle.core_sim.specs.Schedules.{turn_of_step}
 use Rattle.core_sim.specs.Stands.{Stands}
 use Rattle.core_sim.specs.Start.{standing_at}
 use Rattle.core_sim.specs.Image.{MachineImage}
-use Rattle.core_sim.proofs.Stepping.{goes_on, limits, hart_is}
+use Rattle.core_sim.proofs.Stepping.{whatever_failed, can_go_on, goes_on, limits, hart_is}
 use Rattle.core_sim.proofs.machine.Machine.step.Goals as goal
 
 pub returns-then-self-clause-comes : goal.returns-then-self-clause-comes
@@ -16,6 +16,11 @@ returns-then-self-clause-comes c = λ job entries stands.
     let here = subst (λ (m : MachineImage). Stands job entries m) (sym c.self.view_is) stands in
     let live : live_harts c.self.inside.harts.items ≢ [] = subst (λ (harts : List Standing). live_harts harts ≢ []) c.deref.ensures.value c.in-Some.ensures.live in
     record { why = limits job entries _ here live c.if-self.true; unchanged = refl }
+
+pub returns-in_err-kind-clause-memory : goal.returns-in_err-kind-clause-memory
+returns-in_err-kind-clause-memory c =
+    let live : live_harts c.self.inside.harts.items ≢ [] = subst (λ (harts : List Standing). live_harts harts ≢ []) c.deref.ensures.value c.in-Some.ensures.live in
+    whatever_failed c.from_residual.result _ (λ job entries stands. can_go_on job entries _ (subst (λ (m : MachineImage). Stands job entries m) (sym c.self.view_is) stands) live c.if-self.false)
 
 pub returns-clause-comes : goal.returns-clause-comes
 returns-clause-comes c = λ job entries stands.

@@ -1,5 +1,5 @@
 use Rattle.std.proofs.Common.{ℕ, ◌++◌, ap, ◌∙◌}
-use Rattle.core_sim.specs.Schedules.{drawn}
+use Rattle.core_sim.specs.Draws.{drawn}
 use Rattle.guest_asm.specs.Generated.{action_at}
 use Rattle.guest_asm.proofs.Generating.{actions-more, draws-more}
 use Rattle.guest_asm.proofs.generator.Drawing.add_actions.Goals as goal

@@ -1,6 +1,7 @@
 use Rattle.std.proofs.Common.{◌≡◌, ◌++◌, ◌*◌}
 use Rattle.std.specs.List.{flat_map, range_with_len}
-use Rattle.guest_asm.specs.Generated.{drawn_after, action_at}
+use Rattle.core_sim.specs.Draws.{drawn_after}
+use Rattle.guest_asm.specs.Generated.{action_at}
 use Rattle.guest_asm.proofs.generator.Drawing.add_actions.Given as goal
 
 -- so many actions are drawn

@@ -1,0 +1,4 @@
+pub mod StepLemmas
+pub mod SeatLemmas
+pub mod PutLemmas
+pub mod PlayLemmas

@@ -9,12 +9,14 @@
 //! at the end the words are the last ones of that run.
 #![tactic(auto)]
 
+mod laws;
 mod monitor;
 mod put;
 mod rule;
 mod seats;
 mod view;
 
+pub use laws::{late_reads, seat_steps_keep_core, table_is_core, word_steps_are_core_steps};
 pub use put::Put;
 pub use rule::CoreRule;
 pub use seats::{CloseRefused, GuardSeat, Head, Monitor, Note};

@@ -1,8 +1,8 @@
 -- Each word step keeps the rule, and tells what it says.
-use Rattle.std.proofs.Common.{◌≡◌, ◌≢◌, ℕ, ◌+◌, ◌-◌, ◌<◌, ◌≤◌, List, length, get_or, set, refl, sym, ap, ◌∙◌, subst, arith}
+use Rattle.std.proofs.Common.{◌≡◌, ℕ, ◌+◌, ◌-◌, ◌<◌, ◌≤◌, List, length, get_or, refl, sym, ap, ◌∙◌, subst, arith}
 use Rattle.std.specs.List.{Contains}
-use mathlib.Core.Option.{none, some}
-use Rattle.atomic_table.specs.Table.{State, Me, Act, Step, keeps, step, opening, Allows, Splits, Joins, Final, Seen}
+use mathlib.Core.Option.{none}
+use Rattle.atomic_table.specs.Table.{Step, keeps, step, Allows, Splits, Joins, Final, Seen}
 use Rattle.atomic_table.specs.Seated.{TableId}
 use Rattle.atomic_table.proofs.Lists.{set_else}
 use Rattle.order_core.specs.declared.course.Course.{Course}
@@ -14,8 +14,8 @@ use Rattle.order_core.specs.Core.{IsPassed, IsOpen, IsNextWrite, opening_core}
 use Rattle.guard_table.specs.declared.put.Put.{Put}
 use Rattle.guard_table.specs.declared.view.View.{View}
 use Rattle.guard_table.specs.declared.view.Role.TheVariants.{OfHead, OfHart, OfNote}
-use Rattle.guard_table.specs.Views.{first_view, made_seat, fresh_view, freed_seat, told_by, learnt_from, looked, advertised, wrote, spent_view, known_core, HasEight}
-use Rattle.guard_table.specs.Rule.{Table, Represents, HoldsCore}
+use Rattle.guard_table.specs.Views.{made_seat, fresh_view, freed_seat, told_by, learnt_from, looked, advertised, wrote, spent_view, known_core, HasEight}
+use Rattle.guard_table.specs.Rule.{HoldsCore}
 use Rattle.guard_table.specs.Puts.{IsPutOf, after_put}
 use Rattle.guard_table.specs.Seats.{AreLastWords}
 use Rattle.guard_table.specs.Laws.{after_step, opening_table}

@@ -6,8 +6,7 @@ use mathlib.Core.Option.{some, some-injective, some-ne-none}
 use mathlib.Core.Logic.{dite}
 use native.Mathlib.Decide.{ℕ_discrete, dec_le}
 use lib.ListN.{get_elem?}
-use Rattle.atomic_table.specs.Table.{Final, Seen}
-use Rattle.atomic_table.proofs.Lists.{at_set, set_else, set_again}
+use Rattle.atomic_table.proofs.Lists.{at_set, set_again}
 use Rattle.order_core.specs.declared.course.Course.{Course}
 use Rattle.order_core.specs.Lanes.{lane}
 use Rattle.order_core.specs.Course.{length_of}

@@ -1,5 +1,5 @@
 -- The steps of a hart's seat are steps of the core.
-use Rattle.std.proofs.Common.{◌≡◌, ◌≢◌, ℕ, ◌+◌, ◌-◌, ◌<◌, ◌≤◌, true, ◌⊎◌, List, length, get_or, set, refl, sym, ap, ◌∙◌, subst, inl, inr, ⊎_elim, arith, length-set, get_or-set_same, get_or-set_other}
+use Rattle.std.proofs.Common.{◌≡◌, ◌≢◌, ℕ, ◌+◌, ◌<◌, ◌≤◌, true, List, length, get_or, set, refl, sym, ap, ◌∙◌, subst, inl, inr, ⊎_elim, arith, length-set, get_or-set_same, get_or-set_other}
 use Rattle.std.proofs.lemmas.List.{set-get_or}
 use Rattle.std.specs.List.{Contains}
 use mathlib.Core.Option.{some}
@@ -11,7 +11,7 @@ use Rattle.order_core.specs.declared.course.Course.{Course}
 use Rattle.order_core.specs.declared.course.Operation.{Operation}
 use Rattle.order_core.specs.declared.steps.Act.TheVariants.{See, Advertise, Perform}
 use Rattle.order_core.specs.Lanes.{lane, covers, HasValueOf, Lands}
-use Rattle.order_core.specs.Course.{At, rank, length_of, lane_before}
+use Rattle.order_core.specs.Course.{rank, length_of, lane_before}
 use Rattle.order_core.specs.Lawful.{IsLawful, IsInside}
 use Rattle.order_core.specs.Core.{Core, IsMet, IsPassed, IsOpen, IsNextWrite, IsConsistent, put, after_see, after_advertise, after_write}
 use Rattle.order_core.specs.Runs.{Makes}
@@ -21,7 +21,7 @@ use Rattle.order_core.proofs.Ranks.{put_here, put_else}
 use Rattle.guard_table.specs.declared.view.View.{View}
 use Rattle.guard_table.specs.declared.view.Role.TheVariants.{OfHead, OfHart, OfNote}
 use Rattle.guard_table.specs.Views.{looked, advertised, wrote, known_core, HasEight}
-use Rattle.guard_table.specs.Rule.{Table, HasView, IsOfHart, IsOfHead, IsOfNote, IsTrueView, AreApart, Represents}
+use Rattle.guard_table.specs.Rule.{Table, HasView, IsOfHart, IsTrueView, AreApart, Represents}
 use Rattle.guard_table.specs.Laws.{after_step}
 
 module _ (c : Course) where

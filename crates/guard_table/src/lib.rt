@@ -14,6 +14,8 @@ mod monitor;
 mod put;
 mod rule;
 mod seats;
+#[cfg(test)]
+mod tests;
 mod view;
 
 pub use laws::{late_reads, seat_steps_keep_core, table_is_core, word_steps_are_core_steps};

@@ -1,4 +1,4 @@
-use Rattle.std.proofs.Common.{◌≡◌, ◌≤◌, ◌<◌, ℕ, zero, suc, List, [], ◌∷◌, get_or, set, arith}
+use Rattle.std.proofs.Common.{◌≤◌, ℕ, zero, suc, List, [], ◌∷◌, get_or, set, arith}
 use Rattle.order_core.proofs.Progress.{read_after_see, read_after_write}
 use Rattle.guard_table.proofs.StepLemmas as steps
 use Rattle.guard_table.proofs.laws.late_reads.Goals as goal

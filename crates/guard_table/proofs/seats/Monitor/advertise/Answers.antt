@@ -1,10 +1,10 @@
-use Rattle.std.proofs.Common.{ℕ, length, ◌≡◌, ◌≤◌, ◌<◌, ◌+◌, slice_index, arith, ap, subst, sym}
+use Rattle.std.proofs.Common.{◌<◌, slice_index, arith, ap, subst, sym}
 use Rattle.order_core.specs.declared.course.Course.{Course}
 use Rattle.order_core.specs.Course.{course_of}
 use Rattle.order_core.specs.Core.{IsPassed}
 use Rattle.order_core.proofs.Known.{known}
 use Rattle.guard_table.specs.Seats.{seat_view}
-use Rattle.guard_table.proofs.PlayLemmas.{advertises, advertises_at, as_many, nine_words}
+use Rattle.guard_table.proofs.PlayLemmas.{advertises_at, as_many, nine_words}
 use Rattle.guard_table.proofs.seats.Monitor.advertise.Goals as goal
 
 pub store-requires : goal.store-requires

@@ -1,9 +1,9 @@
-use Rattle.std.proofs.Common.{ℕ, length, ◌≡◌, ◌≤◌, ◌<◌, false, true, arith, ap, subst, sym}
+use Rattle.std.proofs.Common.{arith, subst, sym}
 use Rattle.order_core.specs.declared.course.Course.{Course}
 use Rattle.order_core.specs.Course.{course_of}
 use Rattle.order_core.specs.Core.{IsOpen}
 use Rattle.order_core.proofs.Known.{known}
-use Rattle.guard_table.specs.Seats.{seat_view, IsReadNow}
+use Rattle.guard_table.specs.Seats.{seat_view}
 use Rattle.guard_table.specs.Views.{known_core}
 use Rattle.guard_table.proofs.PlayLemmas.{reads, as_many}
 use Rattle.guard_table.proofs.seats.Monitor.check_read.Goals as goal

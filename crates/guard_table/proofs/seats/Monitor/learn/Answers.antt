@@ -1,4 +1,4 @@
-use Rattle.std.proofs.Common.{ℕ, length, ◌≡◌, ◌≤◌, ◌<◌, arith}
+use Rattle.std.proofs.Common.{arith}
 use Rattle.order_core.specs.Course.{course_of}
 use Rattle.guard_table.proofs.PlayLemmas.{learns, as_many, nine_words}
 use Rattle.guard_table.proofs.seats.Monitor.learn.Goals as goal

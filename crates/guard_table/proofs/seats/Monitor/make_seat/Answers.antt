@@ -1,4 +1,4 @@
-use Rattle.std.proofs.Common.{ℕ, length, ◌≡◌, ◌≤◌, ◌<◌, arith, ap, subst, sym}
+use Rattle.std.proofs.Common.{◌<◌, arith, ap, subst, sym}
 use Rattle.order_core.specs.declared.course.Course.{Course}
 use Rattle.order_core.specs.Course.{course_of}
 use Rattle.guard_table.proofs.PlayLemmas.{makes, as_many, nine_words}

@@ -1,4 +1,4 @@
-use Rattle.std.proofs.Common.{ℕ, List, [], ◌≡◌, subst, sym, ◌∙◌}
+use Rattle.std.proofs.Common.{ℕ, List, [], subst, sym, ◌∙◌}
 use Rattle.atomic_table.specs.Table.{opening}
 use Rattle.order_core.specs.Course.{course_of}
 use Rattle.guard_table.specs.Rule.{HoldsCore}

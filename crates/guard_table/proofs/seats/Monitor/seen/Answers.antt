@@ -1,9 +1,7 @@
-use Rattle.std.proofs.Common.{ℕ, length, ◌≡◌, ◌≤◌, ◌<◌, ◌-◌, ◌+◌, slice_index, arith, ap, subst, sym, ◌∙◌, get_or-set_same}
+use Rattle.std.proofs.Common.{◌<◌, arith, ap, subst, sym}
 use Rattle.order_core.specs.declared.course.Course.{Course}
 use Rattle.order_core.specs.Course.{course_of}
 use Rattle.order_core.proofs.Known.{known}
-use Rattle.guard_table.specs.declared.view.View.{View}
-use Rattle.guard_table.specs.Seats.{seat_view}
 use Rattle.guard_table.proofs.PlayLemmas.{sees, as_many, nine_words}
 use Rattle.guard_table.proofs.seats.Monitor.seen.Goals as goal
 

@@ -1,14 +1,13 @@
-use Rattle.std.proofs.Common.{ℕ, length, ◌≡◌, ◌≤◌, ◌<◌, arith, ap, subst, sym}
+use Rattle.std.proofs.Common.{arith, ap, subst, sym}
 use mathlib.Core.Option.{none}
 use Rattle.atomic_table.specs.Table.{step}
 use Rattle.order_core.specs.declared.course.Course.{Course}
 use Rattle.order_core.specs.Course.{course_of}
 use Rattle.order_core.specs.Core.{IsNextWrite}
 use Rattle.order_core.proofs.Known.{known}
-use Rattle.guard_table.specs.declared.put.Put.{Put}
 use Rattle.guard_table.specs.declared.put.Put.TheVariants.{Store, Flip}
 use Rattle.guard_table.specs.Puts.{IsPutOf}
-use Rattle.guard_table.specs.Seats.{seat_view, IsWriteNow}
+use Rattle.guard_table.specs.Seats.{seat_view}
 use Rattle.guard_table.specs.Views.{known_core}
 use Rattle.guard_table.proofs.PlayLemmas.{writes, as_many}
 use Rattle.guard_table.proofs.seats.Monitor.write.Goals as goal

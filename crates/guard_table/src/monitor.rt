@@ -6,8 +6,10 @@ ghost use Rattle.order_core.specs.declared.course.Operation.{Operation};
 ghost use Rattle.order_core.specs.Lanes.{HasValueOf};
 ghost use Rattle.order_core.specs.Course.{course_of, length_of};
 ghost use Rattle.order_core.specs.Core.{IsPassed};
-ghost use Rattle.guard_table.specs.Views.{first_view, made_seat, fresh_view, freed_seat, looked, advertised, wrote, told_by, learnt_from};
-ghost use Rattle.guard_table.specs.Seats.{head_view, seat_view, note_view, IsHeadOf, IsSeatOf, IsNoteOf, IsReadNow, IsWriteNow, AreLastWords};
+ghost use Rattle.guard_table.specs.Views.{first_view, made_seat, fresh_view, freed_seat, told_by, learnt_from};
+ghost use Rattle.guard_table.specs.Views.{looked, advertised, wrote};
+ghost use Rattle.guard_table.specs.Seats.{head_view, seat_view, note_view, IsHeadOf, IsSeatOf, IsNoteOf};
+ghost use Rattle.guard_table.specs.Seats.{IsReadNow, IsWriteNow, AreLastWords};
 
 use crate::put::Put;
 use crate::rule::{Advertises, Learns, Reads, Seats, Sees, TakesBack, Tells, Writes};
@@ -149,8 +151,8 @@ impl<P: Plan> Monitor<P> {
         seat.progress = upto;
     }
 
-    /// The word, which has in the lanes of the read the value of the sequential run there. The read is operation `op` of
-    /// the hart's record `number`, and no check read. It may be made late, again or never.
+    /// The word, which has in the lanes of the read the value of the sequential run there. The read is operation `op`
+    /// of the hart's record `number`, and no check read. It may be made late, again or never.
     pub fn read(&self, seat: &mut GuardSeat, number: u32, op: u32, word: u32) -> u64
         requires of { IsSeatOf self.now (course_of (P.planned self.now.plan)) seat.old }
         requires may { let c = course_of (P.planned self.now.plan) in
@@ -158,7 +160,8 @@ impl<P: Plan> Monitor<P> {
         ensures of { IsSeatOf self.now (course_of (P.planned self.now.plan)) seat.new }
         ensures view { seat_view seat.new ≡ seat_view seat.old }
         ensures value { let c = course_of (P.planned self.now.plan) in
-            (p : ℕ) (a : Operation) → IsReadNow c (seat_view seat.old) number op word false p a → HasValueOf a.what result }
+            (p : ℕ) (a : Operation) → IsReadNow c (seat_view seat.old) number op word false p a →
+            HasValueOf a.what result }
     {
         self.table
             .shared
@@ -180,7 +183,8 @@ impl<P: Plan> Monitor<P> {
         ensures of { IsSeatOf self.now (course_of (P.planned self.now.plan)) seat.new }
         ensures view { seat_view seat.new ≡ seat_view seat.old }
         ensures value { let c = course_of (P.planned self.now.plan) in
-            (p : ℕ) (a : Operation) → IsReadNow c (seat_view seat.old) number op word true p a → HasValueOf a.what result }
+            (p : ℕ) (a : Operation) → IsReadNow c (seat_view seat.old) number op word true p a →
+            HasValueOf a.what result }
         ensures steps { steps.new ≡ steps.old + 1 }
     {
         steps.tick();

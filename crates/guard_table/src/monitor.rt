@@ -1,5 +1,5 @@
 //! The calls on the table, in the order of use: new, the seats, the steps of a hart, and the end.
-ghost use Rattle.std.specs.Prelude.{◌≡◌, ◌≢◌, ℕ, ◌+◌, ◌<◌, ◌≤◌, true, false, [], slice_index, IfOk, MatchResult};
+ghost use Rattle.std.specs.Prelude.{◌≡◌, ◌≢◌, ℕ, ◌+◌, ◌<◌, ◌≤◌, true, false, [], max, slice_index, IfOk, MatchResult};
 ghost use Rattle.std.specs.List.{Contains};
 ghost use Rattle.pl_base.specs.declared.layout.TheConstants.{MAX_HARTS};
 ghost use Rattle.order_core.specs.declared.course.Operation.{Operation};
@@ -49,6 +49,7 @@ impl<P: Plan> Monitor<P> {
         self.plan.block()
     }
 
+    // The seat of hart `HART`: what a split makes of a view may depend on types alone.
     fn make_seat<const HART: u8>(&self, head: &mut Head) -> Seat<(), View>
         requires of { IsHeadOf self.now (course_of (P.planned self.now.plan)) head.old }
         requires eight { HART < MAX_HARTS }
@@ -127,6 +128,8 @@ impl<P: Plan> Monitor<P> {
         requires note { IsNoteOf self.now (course_of (P.planned self.now.plan)) note }
         ensures of { IsSeatOf self.now (course_of (P.planned self.now.plan)) seat.new }
         ensures view { seat_view seat.new ≡ learnt_from (note_view note) (seat_view seat.old) }
+        ensures learnt { let n = note_view note in
+            slice_index (seat_view seat.new).learnt n.hart ≡ max (slice_index (seat_view seat.old).learnt n.hart) n.progress }
     {
         let Note {
             seat: told,
@@ -259,7 +262,8 @@ impl<P: Plan + Drop> Monitor<P> {
 impl GuardSeat {
     /// The hart whose seat it is.
     pub fn hart(&self) -> u8
-        ensures { result ≡ (seat_view self.now).hart }
+        ensures hart { result ≡ (seat_view self.now).hart }
+        ensures inside { result < (seat_view self.now).course.log.harts }
     {
         self.hart
     }
@@ -268,7 +272,8 @@ impl GuardSeat {
 impl Note {
     /// The hart that it tells of.
     pub fn hart(&self) -> u8
-        ensures { result ≡ (note_view self.now).hart }
+        ensures hart { result ≡ (note_view self.now).hart }
+        ensures inside { result < (note_view self.now).course.log.harts }
     {
         self.hart
     }

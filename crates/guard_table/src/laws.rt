@@ -26,7 +26,7 @@ use order_core::Plan;
 
 /// The rule that the table of a plan keeps at every moment between two word steps: its words and the views of its seats
 /// represent a consistent state of the core.
-pub fn table_holds_core<P: Plan>()
+pub fn rule_of_table<P: Plan>()
     ensures { (plan : P) (s : Table) → ⟦<CoreRule as TableRule<(), View, P>>⟧.holds plan s →
         HoldsCore (course_of (P.planned plan)) s }
 {}

@@ -19,7 +19,7 @@ mod tests;
 mod view;
 
 pub use laws::{
-    late_reads, seat_steps_keep_core, table_holds_core, table_is_core, word_steps_are_core_steps,
+    late_reads, rule_of_table, seat_steps_keep_core, table_is_core, word_steps_are_core_steps,
 };
 pub use put::Put;
 pub use rule::CoreRule;

@@ -129,7 +129,8 @@ impl<P: Plan> Monitor<P> {
         ensures of { IsSeatOf self.now (course_of (P.planned self.now.plan)) seat.new }
         ensures view { seat_view seat.new ≡ learnt_from (note_view note) (seat_view seat.old) }
         ensures learnt { let n = note_view note in
-            slice_index (seat_view seat.new).learnt n.hart ≡ max (slice_index (seat_view seat.old).learnt n.hart) n.progress }
+            slice_index (seat_view seat.new).learnt n.hart ≡
+            max (slice_index (seat_view seat.old).learnt n.hart) n.progress }
     {
         let Note {
             seat: told,

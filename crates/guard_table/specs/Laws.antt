@@ -31,7 +31,11 @@ after_split s id v w = record { words = s.words; homes = s.homes; views = slice_
 
 -- another seat is joined into the seat, whose view becomes v
 abbrev pub after_join : Table → ℕ → View → ℕ → Table
-after_join s id v other = record { words = s.words; homes = s.homes; views = slice_set (slice_set s.views id v) other spent_view }
+after_join s id v other = record {
+  words = s.words;
+  homes = s.homes;
+  views = slice_set (slice_set s.views id v) other spent_view;
+}
 
 -- the seat is the head's, a hart's or a note's, and has this view
 abbrev pub IsHeadAt : Table → ℕ → View → Type 0

@@ -53,7 +53,8 @@ pub record IsWriteNow (c : Course) (v : View) (number op word : ℕ) (put : Put)
   pub next : IsNextWrite c (known_core v) v.hart p a
   pub puts : IsPutOf c p a put
 
--- the words are as many as at the start, and from the first that operations name on those at the end of the sequential run
+-- the words are as many as at the start, and those that operations may name are as the sequential run leaves them
 pub record AreLastWords (c : Course) (words : List ℕ) : Type 0 where
   pub size : length words ≡ length c.opening
-  pub lanes : (w j : ℕ) → FIRST_WORD ≤ w → w < length c.opening → j < LANES → lane j (slice_index words w) ≡ last_lane c w j
+  pub lanes : (w j : ℕ) → FIRST_WORD ≤ w → w < length c.opening → j < LANES
+      → lane j (slice_index words w) ≡ last_lane c w j

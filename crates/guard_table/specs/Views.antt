@@ -73,7 +73,9 @@ told_by v = record {
 
 -- a hart's after it takes in a note
 abbrev pub learnt_from : View → View → View
-learnt_from note v = record v { learnt = slice_set v.learnt note.hart (max (slice_index v.learnt note.hart) note.progress) }
+learnt_from note v =
+    let most = max (slice_index v.learnt note.hart) note.progress in
+    record v { learnt = slice_set v.learnt note.hart most }
 
 -- what is left of a view that was joined into another
 abbrev pub spent_view : View
@@ -92,7 +94,12 @@ spent_view = record {
 
 -- the state of the core as far as a hart knows it: what it says of other harts and of words means nothing
 abbrev pub known_core : View → Core
-known_core v = record { written = λ h. v.written; progress = λ h. v.progress; seen = λ h. slice_index v.seen; word = λ w. 0 }
+known_core v = record {
+  written = λ h. v.written;
+  progress = λ h. v.progress;
+  seen = λ h. slice_index v.seen;
+  word = λ w. 0;
+}
 
 -- a hart's view speaks of eight harts
 abbrev pub HasEight : View → Type 0

@@ -6,7 +6,7 @@ ghost use Rattle.order_core.specs.declared.course.Operation.{Operation};
 ghost use Rattle.order_core.specs.declared.steps.Act.{Act};
 ghost use Rattle.order_core.specs.declared.steps.Act.TheVariants.{See, Advertise, Perform};
 ghost use Rattle.order_core.specs.Lanes.{HasValueOf, Meets};
-ghost use Rattle.order_core.specs.Course.{length_of};
+ghost use Rattle.order_core.specs.Course.{course_of, length_of};
 ghost use Rattle.order_core.specs.Lawful.{IsLawful};
 ghost use Rattle.order_core.specs.Core.{opening_core, IsPassed, IsOpen, IsNextWrite};
 ghost use Rattle.guard_table.specs.declared.put.Put.{Put};
@@ -19,8 +19,20 @@ ghost use Rattle.guard_table.specs.Seats.{AreLastWords};
 ghost use Rattle.guard_table.specs.Laws.{opening_table, after_step, after_writing, after_split, after_join};
 ghost use Rattle.guard_table.specs.Laws.{IsHeadAt, IsHartAt, IsNoteAt, IsCoreStep, KeepsCore};
 
-/// The words and the view of the first seat represent the opening state of the core. A step of the core leads from words
-/// and views that represent a consistent state to such words and views. At the end the words are the last ones.
+use crate::rule::CoreRule;
+use crate::view::View;
+use atomic_table::TableRule;
+use order_core::Plan;
+
+/// The rule that the table of a plan keeps at every moment between two word steps: its words and the views of its seats
+/// represent a consistent state of the core.
+pub fn rule_of_table<P: Plan>()
+    ensures { (plan : P) (s : Table) → ⟦<CoreRule as TableRule<(), View, P>>⟧.holds plan s →
+        HoldsCore (course_of (P.planned plan)) s }
+{}
+
+/// The words and the view of the first seat represent the opening state of the core. A step of the core leads from
+/// words and views that represent a consistent state to such words and views. At the end the words are the last ones.
 pub fn table_is_core()
     ensures opening { (c : Course) → ∥ IsLawful c ∥₁ → Represents c (opening_core c) (opening_table c) }
     ensures step { (c : Course) (s s' : Table) (h : ℕ) (act : Act) → HoldsCore c s → IsCoreStep c s h act s' →
@@ -58,8 +70,9 @@ pub fn seat_steps_keep_core()
         w.progress ≡ length_of c w.hart → KeepsCore c s (after_join s id (freed_seat w.hart v) other) }
 {}
 
-/// A read that a hart's own view allows finds its value at every moment, whatever other seats have done by then. It stays
-/// allowed where its hart looks, advertises less than its record, or performs a write that does not clash with it.
+/// A read that a hart's own view allows finds its value at every moment, whatever other seats have done by then. It
+/// stays allowed where its hart looks, advertises less than its record, or performs a write that does not clash with
+/// it.
 pub fn late_reads()
     ensures value { (c : Course) (s : Table) (id p : ℕ) (v : View) (a : Operation) → HoldsCore c s → IsHartAt s id v →
         IsOpen c (known_core v) v.hart p a → HasValueOf a.what (slice_index s.words a.what.word) }

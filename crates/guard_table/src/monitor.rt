@@ -1,13 +1,15 @@
 //! The calls on the table, in the order of use: new, the seats, the steps of a hart, and the end.
-ghost use Rattle.std.specs.Prelude.{◌≡◌, ◌≢◌, ℕ, ◌+◌, ◌<◌, ◌≤◌, true, false, [], slice_index, IfOk, MatchResult};
+ghost use Rattle.std.specs.Prelude.{◌≡◌, ◌≢◌, ℕ, ◌+◌, ◌<◌, ◌≤◌, true, false, [], max, slice_index, IfOk, MatchResult};
 ghost use Rattle.std.specs.List.{Contains};
 ghost use Rattle.pl_base.specs.declared.layout.TheConstants.{MAX_HARTS};
 ghost use Rattle.order_core.specs.declared.course.Operation.{Operation};
 ghost use Rattle.order_core.specs.Lanes.{HasValueOf};
 ghost use Rattle.order_core.specs.Course.{course_of, length_of};
 ghost use Rattle.order_core.specs.Core.{IsPassed};
-ghost use Rattle.guard_table.specs.Views.{first_view, made_seat, fresh_view, freed_seat, looked, advertised, wrote, told_by, learnt_from};
-ghost use Rattle.guard_table.specs.Seats.{head_view, seat_view, note_view, IsHeadOf, IsSeatOf, IsNoteOf, IsReadNow, IsWriteNow, AreLastWords};
+ghost use Rattle.guard_table.specs.Views.{first_view, made_seat, fresh_view, freed_seat, told_by, learnt_from};
+ghost use Rattle.guard_table.specs.Views.{looked, advertised, wrote};
+ghost use Rattle.guard_table.specs.Seats.{head_view, seat_view, note_view, IsHeadOf, IsSeatOf, IsNoteOf};
+ghost use Rattle.guard_table.specs.Seats.{IsReadNow, IsWriteNow, AreLastWords};
 
 use crate::put::Put;
 use crate::rule::{Advertises, Learns, Reads, Seats, Sees, TakesBack, Tells, Writes};
@@ -47,6 +49,7 @@ impl<P: Plan> Monitor<P> {
         self.plan.block()
     }
 
+    // The seat of hart `HART`: what a split makes of a view may depend on types alone.
     fn make_seat<const HART: u8>(&self, head: &mut Head) -> Seat<(), View>
         requires of { IsHeadOf self.now (course_of (P.planned self.now.plan)) head.old }
         requires eight { HART < MAX_HARTS }
@@ -125,6 +128,9 @@ impl<P: Plan> Monitor<P> {
         requires note { IsNoteOf self.now (course_of (P.planned self.now.plan)) note }
         ensures of { IsSeatOf self.now (course_of (P.planned self.now.plan)) seat.new }
         ensures view { seat_view seat.new ≡ learnt_from (note_view note) (seat_view seat.old) }
+        ensures learnt { let n = note_view note in
+            slice_index (seat_view seat.new).learnt n.hart ≡
+            max (slice_index (seat_view seat.old).learnt n.hart) n.progress }
     {
         let Note {
             seat: told,
@@ -149,8 +155,8 @@ impl<P: Plan> Monitor<P> {
         seat.progress = upto;
     }
 
-    /// The word, which has in the lanes of the read the value of the sequential run there. The read is operation `op` of
-    /// the hart's record `number`, and no check read. It may be made late, again or never.
+    /// The word, which has in the lanes of the read the value of the sequential run there. The read is operation `op`
+    /// of the hart's record `number`, and no check read. It may be made late, again or never.
     pub fn read(&self, seat: &mut GuardSeat, number: u32, op: u32, word: u32) -> u64
         requires of { IsSeatOf self.now (course_of (P.planned self.now.plan)) seat.old }
         requires may { let c = course_of (P.planned self.now.plan) in
@@ -158,7 +164,8 @@ impl<P: Plan> Monitor<P> {
         ensures of { IsSeatOf self.now (course_of (P.planned self.now.plan)) seat.new }
         ensures view { seat_view seat.new ≡ seat_view seat.old }
         ensures value { let c = course_of (P.planned self.now.plan) in
-            (p : ℕ) (a : Operation) → IsReadNow c (seat_view seat.old) number op word false p a → HasValueOf a.what result }
+            (p : ℕ) (a : Operation) → IsReadNow c (seat_view seat.old) number op word false p a →
+            HasValueOf a.what result }
     {
         self.table
             .shared
@@ -180,7 +187,8 @@ impl<P: Plan> Monitor<P> {
         ensures of { IsSeatOf self.now (course_of (P.planned self.now.plan)) seat.new }
         ensures view { seat_view seat.new ≡ seat_view seat.old }
         ensures value { let c = course_of (P.planned self.now.plan) in
-            (p : ℕ) (a : Operation) → IsReadNow c (seat_view seat.old) number op word true p a → HasValueOf a.what result }
+            (p : ℕ) (a : Operation) → IsReadNow c (seat_view seat.old) number op word true p a →
+            HasValueOf a.what result }
         ensures steps { steps.new ≡ steps.old + 1 }
     {
         steps.tick();
@@ -255,7 +263,8 @@ impl<P: Plan + Drop> Monitor<P> {
 impl GuardSeat {
     /// The hart whose seat it is.
     pub fn hart(&self) -> u8
-        ensures { result ≡ (seat_view self.now).hart }
+        ensures hart { result ≡ (seat_view self.now).hart }
+        ensures inside { result < (seat_view self.now).course.log.harts }
     {
         self.hart
     }
@@ -264,7 +273,8 @@ impl GuardSeat {
 impl Note {
     /// The hart that it tells of.
     pub fn hart(&self) -> u8
-        ensures { result ≡ (note_view self.now).hart }
+        ensures hart { result ≡ (note_view self.now).hart }
+        ensures inside { result < (note_view self.now).course.log.harts }
     {
         self.hart
     }

@@ -51,6 +51,7 @@ pub struct Note {
     ghost role: { seat.me.0.role ≡ OfNote },
     ghost on_table: { IsOnTable seat },
     ghost own_hart: { seat.me.0.hart ≡ hart },
+    ghost inside: { hart < seat.me.0.course.log.harts },
     ghost own_progress: { seat.me.0.progress ≡ upto },
 }
 

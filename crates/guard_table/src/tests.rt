@@ -252,13 +252,15 @@ fn counted<R: Threads + Sync>(rt: &R, alloc: Global, count_to: u32) -> Result<Ve
         rt,
         move || -> GuardSeat
             requires of { IsSeatOf table.now (course_of (two_words table.now.plan.count)) first }
-            requires fresh { ((seat_view first).hart ≡ 0) × ((seat_view first).written ≡ 0) × ((seat_view first).progress ≡ 0) }
+            requires hart { (seat_view first).hart ≡ 0 }
+            requires fresh { ((seat_view first).written ≡ 0) × ((seat_view first).progress ≡ 0) }
             ensures of { IsSeatOf table.entry.now (course_of (two_words table.entry.now.plan.count)) result }
             ensures ended { ((seat_view result).hart ≡ 0) × ((seat_view result).progress ≡ 1) }
         { count(table, first, 1) },
         move || -> GuardSeat
             requires of { IsSeatOf table.now (course_of (two_words table.now.plan.count)) second }
-            requires fresh { ((seat_view second).hart ≡ 1) × ((seat_view second).written ≡ 0) × ((seat_view second).progress ≡ 0) }
+            requires hart { (seat_view second).hart ≡ 1 }
+            requires fresh { ((seat_view second).written ≡ 0) × ((seat_view second).progress ≡ 0) }
             ensures of { IsSeatOf table.entry.now (course_of (two_words table.entry.now.plan.count)) result }
             ensures ended { ((seat_view result).hart ≡ 1) × ((seat_view result).progress ≡ 1) }
         { count(table, second, 0) },

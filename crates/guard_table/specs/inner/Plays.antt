@@ -22,7 +22,8 @@ IsAdvertised st m n m' = m' ≡ (advertised st.first m.0, m.1)
 -- a load of another word finds n, which has the value of each read of it that is open
 abbrev pub IsRead : Step (Unit {0}) → Held → ℕ → Held → Type 0
 IsRead st m n m' = (m' ≡ m)
-    × ((p : ℕ) (a : Operation) → IsOpen m.0.course (known_core m.0) m.0.hart p a → a.what.word ≡ st.word → HasValueOf a.what n)
+    × ((p : ℕ) (a : Operation) → IsOpen m.0.course (known_core m.0) m.0.hart p a → a.what.word ≡ st.word
+    → HasValueOf a.what n)
 
 abbrev pub IsWritten : Step (Unit {0}) → Held → ℕ → Held → Type 0
 IsWritten st m n m' = m' ≡ (wrote m.0, m.1)

@@ -7,8 +7,12 @@ use Rattle.pl_event.specs.Edges.{no_arcs}
 use Rattle.order_core.specs.declared.course.Op.{Op}
 use Rattle.order_core.specs.Course.{Planned}
 
+-- a record of hart h that touches no memory
+abbrev pub plain_line : ℕ → Line
+plain_line h = record { what = entry.Event (record { hart = h; kind = Im 5 }); arcs = no_arcs }
+
 abbrev pub two_lines : List Line
-two_lines = record { what = entry.Event (record { hart = 0; kind = Im 5 }); arcs = no_arcs } ∷ record { what = entry.Event (record { hart = 1; kind = Im 5 }); arcs = no_arcs } ∷ []
+two_lines = plain_line 0 ∷ plain_line 1 ∷ []
 
 -- the operations of record 1
 abbrev pub of_first : (ℕ → List Op) → ℕ → ℕ → List Op
@@ -16,7 +20,7 @@ of_first f h zero = []
 of_first f h (suc zero) = f h
 of_first f h (suc (suc m)) = []
 
--- two harts with one record each that touches no memory, beside nine words that are 0 these words, and these operations
+-- two harts with one record each, nine words that are 0 and more words, and these operations
 abbrev pub two_records : List ℕ → (ℕ → List Op) → Planned
 two_records more f = record {
   log = record { harts = 2; block = 16; pages = []; lines = two_lines };
@@ -25,7 +29,13 @@ two_records more f = record {
 }
 
 abbrev pub test_op : ℕ → ℕ → Bool → Bool → ℕ → Op
-test_op word lanes write check value = record { word = word; lanes = lanes; write = write; check = check; value = value }
+test_op word lanes write check value = record {
+  word = word;
+  lanes = lanes;
+  write = write;
+  check = check;
+  value = value;
+}
 
 -- no operations
 abbrev pub no_operations : Planned

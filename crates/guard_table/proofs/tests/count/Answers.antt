@@ -12,7 +12,7 @@ write-requires-clause-may c =
     let v = seat_view c.loop-i.seat in
     let inv = c.loop-i.invariant in
     let low : v.hart < 2 = subst (λ (z : ℕ). z < 2) (sym inv.1) c.requires.hart in
-    let word : 9 + v.hart ≡ 9 + c.hart.result = ap (λ (z : ℕ). 9 + z) (inv.1 ∙ sym c.hart.ensures) in
+    let word : 9 + v.hart ≡ 9 + c.hart.result = ap (λ (z : ℕ). 9 + z) (inv.1 ∙ sym c.hart.ensures.hart) in
     subst (λ (z : ℕ). (p : ℕ) × (a : Operation) × IsWriteNow (course_of (two_words c.args.monitor.now.plan.count)) v 1 c.loop-i.i z (Store (c.loop-i.i + 1)) p a) word
     (may_count c.args.monitor.now.plan.count c.args.monitor.now.plan.few v c.loop-i.i low inv.2 (omega arith))
 

@@ -1,4 +1,5 @@
-use Rattle.std.proofs.Common.{◌≡◌, ℕ, zero, suc, ◌<◌, ◌≤◌, List, [], ◌∷◌, ◌++◌, length, take, refl, ap, sym, ◌∙◌, subst, arith, add-one}
+use Rattle.std.proofs.Common.{◌≡◌, ℕ, zero, suc, ◌<◌, List, [], ◌∷◌, ◌++◌, take, ap, sym, ◌∙◌, subst, arith, add-one}
+use Rattle.std.proofs.lemmas.List.{take_all}
 use mathlib.Core.Option.{some, some-injective, some-ne-none}
 use lib.ListN.{get_elem?}
 use Rattle.order_core.specs.declared.course.Course.{Course}
@@ -11,12 +12,6 @@ take_one : (l : List ℕ) (i a : ℕ) → get_elem? l i ≡ some a → take (suc
 take_one [] i a e = absurd (some-ne-none a (sym e))
 take_one (x ∷ xs) zero a e = ap (λ (z : ℕ). z ∷ []) (some-injective x a e)
 take_one (x ∷ xs) (suc i) a e = ap (λ (z : List ℕ). x ∷ z) (take_one xs i a e)
-
-take_all : (l : List ℕ) (i : ℕ) → length l ≤ i → take i l ≡ l
-take_all [] zero e = refl
-take_all [] (suc i) e = refl
-take_all (x ∷ xs) zero e = absurd (omega arith)
-take_all (x ∷ xs) (suc i) e = ap (λ (z : List ℕ). x ∷ z) (take_all xs i (omega arith))
 
 pub loop-i-preserved : goal.loop-i-preserved
 loop-i-preserved g c =
@@ -31,7 +26,7 @@ returns g c =
     let k = course_of (g.P.Plan.planned c.args.self.plan) in
     let key = ap (λ z. course_of (g.P.Plan.planned z)) c.args.self.key in
     let len = c.close_with-closed.result.words.ok.0 in
-    let all = take_all c.close_with-closed.result.words.items c.loop-i.i (omega arith) in
+    let all = take_all c.loop-i.i c.close_with-closed.result.words.items (omega arith) in
     let last : AreLastWords (course_of (g.P.Plan.planned c.args.self.table.shared.key)) c.close_with-closed.result.words.items =
     closes (course_of (g.P.Plan.planned c.args.self.table.shared.key)) _ c.args.head.seat.me.0 _ _ c.args.head.role (λ h l. c.requires.freed h (subst (λ (z : Course). h < z.log.harts) key l)) c.close_with-closed.ensures.values.2 in
     subst (AreLastWords k) (sym (c.loop-i.invariant.0 ∙ all)) (subst (λ (z : Course). AreLastWords z c.close_with-closed.result.words.items) key last)

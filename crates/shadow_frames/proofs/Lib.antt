@@ -1,0 +1,9 @@
+pub mod Bits
+pub mod Sound
+pub mod Ranges
+pub mod Mapping
+pub mod Unmapping
+pub mod Free
+pub mod First
+pub mod Many
+pub mod PageOperations

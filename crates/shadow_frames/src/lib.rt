@@ -1,0 +1,13 @@
+//! Frames of shadow words: which word of a shared table has the nibble of a byte of guest memory.
+//!
+//! A shadow word has the nibbles of 16 bytes. The 256 shadow words of a page are a frame, and there are 512 frames.
+//! The directory has a word for each page, with the number of its frame plus 1, or 0 where the page is not mapped. The
+//! frame map has a bit for each frame, set where it is in use. A page that is mapped gets the lowest free frame.
+#![tactic(auto)]
+
+mod laws;
+pub mod words;
+
+pub use laws::{
+    a_frame_is_free, next_frame, one_bit, page_operations, pages_mapped, pages_unmapped,
+};

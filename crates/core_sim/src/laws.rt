@@ -31,8 +31,8 @@ pub fn opening_pages()
 {}
 
 /// Each event of a valid job's run, or of a prefix of it, may follow those before it: it is valid, its hart has not
-/// ended, and it maps and unmaps pages that may be. An entry has one to four events, and there are at most as many
-/// entries as the job's steps.
+/// ended, and it maps and unmaps pages that may be. An entry has one to four events, so far each one; there are at most
+/// as many entries as the job's steps.
 pub fn run_events()
     ensures each { (job : Job) (entries : List Entry) → IsValidJob job → IsPrefix job entries →
         (i : ℕ) (event : Event) → slice_get (events_of_run entries) i ≡ Some event →

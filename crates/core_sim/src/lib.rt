@@ -5,9 +5,8 @@
 //!
 //! A machine keeps the text, of which each word was read once, the kernel, the harts side by side and the turn that
 //! goes on. A step fetches one instruction by its pc and does it whole, to the hart in its place; a load or a store
-//! is one look-up of memory. Contracts say which
-//! prefix of the job's one run a machine stands for: a run is a list of entries, in which memory, blocks, harts and
-//! turns are looked up.
+//! is one look-up of memory. Contracts say which prefix of the job's one run a machine stands for: a run is a list of
+//! entries, in which memory, blocks, harts and turns are looked up, and its events are a list in executed order.
 #![tactic(auto)]
 
 mod asked;

@@ -52,32 +52,35 @@ pub fn advance(state: &mut HartState, instr: &Instr)
     requires plain { IsPlain instr.now }
     ensures { effect_of state.old instr.now ≡ Effect.Plain instr.now state.new }
 {
-    let next_pc = state.next_pc();
     match *instr {
-        Instr::Lui { rd, imm } => state.put(rd, imm * (1 << 12), next_pc),
+        Instr::Lui { rd, imm } => state.put(rd, imm * (1 << 12), state.next_pc()),
         Instr::Auipc { rd, imm } => {
-            state.put(rd, state.pc.wrapping_add(imm * (1 << 12)), next_pc)
+            state.put(rd, state.pc.wrapping_add(imm * (1 << 12)), state.next_pc())
         }
-        Instr::Jal { rd, off } => state.put(rd, next_pc, state.pc.wrapping_add_signed(off)),
+        Instr::Jal { rd, off } => state.put(rd, state.next_pc(), state.pc.wrapping_add_signed(off)),
         Instr::Jalr { rd, rs1, imm } => {
             let target = state.address(rs1, imm) / 2 * 2;
-            state.put(rd, next_pc, target)
+            state.put(rd, state.next_pc(), target)
         }
         Instr::Branch { op, rs1, rs2, off } => {
             if is_taken(op, state.reg(rs1), state.reg(rs2)) {
                 state.go(state.pc.wrapping_add_signed(off))
             } else {
-                state.go(next_pc)
+                state.go(state.next_pc())
             }
         }
         Instr::OpImm { op, rd, rs1, imm } => {
             let value = operate(on_registers(op), state.reg(rs1), imm.cast_unsigned());
-            state.put(rd, value, next_pc)
+            state.put(rd, value, state.next_pc())
         }
         Instr::Op { op, rd, rs1, rs2 } => {
-            state.put(rd, operate(op, state.reg(rs1), state.reg(rs2)), next_pc)
+            state.put(
+                rd,
+                operate(op, state.reg(rs1), state.reg(rs2)),
+                state.next_pc(),
+            )
         }
-        Instr::Fence { bits: _ } => state.go(next_pc),
+        Instr::Fence { bits: _ } => state.go(state.next_pc()),
         Instr::Load { .. } | Instr::Store { .. } | Instr::Ecall => {}
     }
 }

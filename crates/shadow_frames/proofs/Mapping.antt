@@ -4,11 +4,11 @@ use mathlib.Core.Logic.{dite}
 use native.Mathlib.Decide.{ℕ_discrete}
 use Rattle.lifeguard.specs.State.{Bytes, replaced}
 use Rattle.shadow_frames.specs.Frames.{fills, frame_shapes}
-use Rattle.shadow_frames.specs.Words.{bit, is_used, nibble, shadow_word, byte_in, byte_of, WordsRepresent, IsFilledWith}
+use Rattle.shadow_frames.specs.Words.{bit, is_used, nibble_of, shadow_word, byte_in, byte_of, WordsRepresent, IsFilledWith}
 use Rattle.shadow_frames.proofs.Sound.{read_sound, write_sound}
 use Rattle.order_core.specs.Core.{put}
 use Rattle.order_core.specs.Shapes.{after_shapes, AreSoundShapes}
-use Rattle.shadow_frames.proofs.Bits.{set_bit}
+use Rattle.shadow_frames.proofs.BitLemmas.{set_bit}
 use Rattle.shadow_frames.proofs.Ranges.{in_span, off_span}
 
 pub put_here : (f : ℕ → ℕ) (h x : ℕ) → put f h x h ≡ x
@@ -129,7 +129,7 @@ module _ (w : ℕ → ℕ) (p f fill : ℕ) (small : p < 4096) (inside : f < 512
     own_byte a lt own =
         let d : next (17 + a / 4096) ≡ suc f = ap (λ (x : ℕ). next (17 + x)) own ∙ (own_page ∙ omega arith) in
         ap (byte_in next a) d
-        ∙ ap Some (ap (λ (v : ℕ). nibble v (a % 16)) (ap next (omega arith) ∙ in_frame (a % 4096 / 16) (omega arith)) ∙ full (a % 16) (omega arith))
+        ∙ ap Some (ap (λ (v : ℕ). nibble_of v (a % 16)) (ap next (omega arith) ∙ in_frame (a % 4096 / 16) (omega arith)) ∙ full (a % 16) (omega arith))
 
     other_byte : (a : ℕ) → a < 2 ^ 24 → a / 4096 ≢ p → byte_of next a ≡ byte_of w a
     other_byte a lt other =
@@ -142,7 +142,7 @@ module _ (w : ℕ → ℕ) (p f fill : ℕ) (small : p < 4096) (inside : f < 512
         by (suc d) e =
             let apart : d ≢ f = frames_apart bytes st free (a / 4096) d (omega arith) e in
             let k : a % 4096 / 16 < 256 = omega arith in
-            ap (λ (v : ℕ). Some (nibble v (a % 16))) (other_frame (shadow_word (suc d) a) (omega arith) (λ x y. apart (omega arith)))
+            ap (λ (v : ℕ). Some (nibble_of v (a % 16))) (other_frame (shadow_word (suc d) a) (omega arith) (λ x y. apart (omega arith)))
 
     pub represents_next : WordsRepresent next (replaced (Some s) (p * 4096) 4096 bytes)
     unfolding replaced

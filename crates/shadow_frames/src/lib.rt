@@ -5,9 +5,13 @@
 //! frame map has a bit for each frame, set where it is in use. A page that is mapped gets the lowest free frame.
 #![tactic(auto)]
 
+mod bits;
 mod laws;
+mod nibbles;
+mod slot;
 pub mod words;
 
+pub use bits::{has_bit, with_bit, without_bit};
 pub use laws::{
     a_frame_is_free, next_frame, one_bit, page_operations, pages_mapped, pages_unmapped,
 };

@@ -1,0 +1,5 @@
+pub mod NibbleLemmas
+pub mod LaneLemmas
+pub mod Blocks
+pub mod Represented
+pub mod Sound

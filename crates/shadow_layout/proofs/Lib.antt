@@ -3,3 +3,5 @@ pub mod LaneLemmas
 pub mod Blocks
 pub mod Represented
 pub mod Sound
+pub mod PageTests
+pub mod LogLemmas

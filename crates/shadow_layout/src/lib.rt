@@ -7,4 +7,4 @@
 
 mod laws;
 
-pub use laws::event_operations;
+pub use laws::{event_operations, log_operations};

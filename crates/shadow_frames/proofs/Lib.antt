@@ -10,3 +10,5 @@ pub mod Many
 pub mod PageOperations
 pub mod MappedPages
 pub mod OpeningLemmas
+pub mod Placed
+pub mod Placing

@@ -21,7 +21,7 @@ use Rattle.shadow_frames.proofs.Ranges.{off_span}
 abbrev zeros : ℕ → ℕ
 zeros x = 0
 
-zero_unused : (f : ℕ) → is_used zeros f ≡ false
+pub zero_unused : (f : ℕ) → is_used zeros f ≡ false
 zero_unused f = ap (λ (z : ℕ). eqb (z % 2) 1) (zero-div (2 ^ (f % 64)))
 
 no_true : (b : Bool) → b ≡ true → b ≡ false → ⊥

@@ -8,6 +8,7 @@
 mod bits;
 mod laws;
 mod nibbles;
+mod opening;
 mod slot;
 pub mod words;
 

@@ -12,3 +12,4 @@ pub mod MappedPages
 pub mod OpeningLemmas
 pub mod Placed
 pub mod Placing
+pub mod LowestFree

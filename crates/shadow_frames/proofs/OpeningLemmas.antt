@@ -1,8 +1,11 @@
 -- The opening words represent the first state.
 use Rattle.std.proofs.Common.{◌≡◌, ◌≢◌, ℕ, ◌+◌, ◌%◌, ◌^◌, ◌<◌, ◌≤◌, Bool, true, false, eqb, List, [], ◌∷◌, Some, refl, ap, ◌∙◌, arith, fold, if◌then◌else◌}
+use Rattle.std.proofs.Math.Path.{fun_ext}
 use Rattle.std.proofs.Math.Nat.{zero-div}
 use Rattle.pl_base.specs.Pages.{count_below}
 use Rattle.pl_base.proofs.Pages.{count_failing}
+use Rattle.pl_event.specs.declared.log.PageKind.{PageKind}
+use Rattle.pl_event.specs.declared.log.PageKind.TheVariants.{Data, Heap, Stack}
 use Rattle.pl_event.specs.declared.log.PageRun.{PageRun}
 use Rattle.pl_event.specs.OpeningPages.{RiseFrom, pages_in}
 use Rattle.lifeguard.specs.Rules.{Rules, KeepsLaws}
@@ -11,7 +14,7 @@ use Rattle.order_core.specs.Core.{put}
 use Rattle.order_core.specs.Shapes.{Shape, AreSoundShapes, after_shape, after_shapes}
 use Rattle.shadow_frames.specs.Words.{WordsRepresent, all_nibbles, has_page, is_used, is_mapped, mapped_pages}
 use Rattle.shadow_frames.specs.Frames.{map_page, pages_from}
-use Rattle.shadow_frames.specs.Opening.{map_run, opening_words}
+use Rattle.shadow_frames.specs.Opening.{map_run, opening_words, state_in}
 use Rattle.shadow_frames.proofs.Mapping.{put_else}
 use Rattle.shadow_frames.proofs.Many.{all_mapped, all_counted, all_map_sound}
 use Rattle.shadow_frames.proofs.MappedPages.{no_page, page_replaced}
@@ -97,3 +100,12 @@ module _ (rules : Rules) (laws : KeepsLaws rules) where
   pub opened : (pages : List PageRun) → RiseFrom 0 pages → pages_in pages ≤ 512 → IsDone (opening_words rules.page_state pages) (first_state rules pages).bytes
   unfolding opening_words
   opened pages rising room = all_runs zeros nothing 0 0 pages (record { represents = zeros_represent; free = λ q low lt. refl; few = zeros_unmapped; low = λ u lt. refl }) rising (omega arith)
+
+-- the nibbles of the kinds of page as a list of three
+pub states_are : (rules : Rules) → state_in (rules.page_state Data ∷ rules.page_state Heap ∷ rules.page_state Stack ∷ []) ≡ rules.page_state
+states_are rules = fun_ext (λ kind. by kind)
+  where
+    by : (kind : PageKind) → state_in (rules.page_state Data ∷ rules.page_state Heap ∷ rules.page_state Stack ∷ []) kind ≡ rules.page_state kind
+    by Data = refl
+    by Heap = refl
+    by Stack = refl

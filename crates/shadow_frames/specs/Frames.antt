@@ -1,5 +1,5 @@
 -- How pages get frames, and how their frames are freed, as operations on words.
-use Rattle.std.specs.Prelude.{ℕ, zero, suc, ◌+◌, ◌-◌, ◌%◌, ◌^◌, Bool, true, false, List, [], ◌∷◌, ◌++◌, if◌then◌else◌}
+use Rattle.std.specs.Prelude.{ℕ, zero, suc, ◌+◌, ◌-◌, ◌%◌, ◌^◌, Bool, true, false, nat_lt, Option, Some, None, List, [], ◌∷◌, ◌++◌, if◌then◌else◌}
 use Rattle.pl_base.specs.declared.layout.TheConstants.{MAX_MAPPED_PAGES}
 use Rattle.order_core.specs.Shapes.{Shape, after_shapes}
 use Rattle.shadow_frames.specs.declared.words.TheConstants.{FRAME_MAP_START, FRAME_WORDS}
@@ -32,6 +32,10 @@ free_from w f (suc n) = if is_used w f then free_from w (suc f) n else f
 -- the lowest free frame, or 512 where there is none
 unfoldable pub lowest_free : (ℕ → ℕ) → ℕ
 lowest_free w = free_from w 0 MAX_MAPPED_PAGES
+
+-- the number of a frame, or none where there is no such frame
+abbrev pub frame_or_none : ℕ → Option ℕ
+frame_or_none f = if nat_lt f MAX_MAPPED_PAGES then Some f else None
 
 -- the frame map is read, and page p gets frame f, whose words are filled
 abbrev pub frame_shapes : ℕ → ℕ → ℕ → List Shape

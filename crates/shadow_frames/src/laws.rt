@@ -1,13 +1,14 @@
 //! What mapping and unmapping pages makes of the words and of the bytes that they represent.
-ghost use Rattle.std.specs.Prelude.{◌≡◌, ◌≢◌, ℕ, ◌+◌, ◌*◌, ◌-◌, ◌^◌, ◌<◌, ◌≤◌, ◌==◌, Bool, true, false, List, length, slice_get, None, Some, if◌then◌else◌};
+ghost use Rattle.std.specs.Prelude.{◌≡◌, ◌≢◌, ℕ, ◌+◌, ◌*◌, ◌-◌, ◌^◌, ◌<◌, ◌≤◌, ◌==◌, Bool, true, false, List, [], ◌∷◌, length, slice_get, None, Some, if◌then◌else◌};
 ghost use Rattle.pl_base.specs.declared.layout.TheConstants.{MAX_MAPPED_PAGES, PAGE_COUNT};
+ghost use Rattle.pl_event.specs.declared.log.PageKind.TheVariants.{Data, Heap, Stack};
 ghost use Rattle.pl_event.specs.declared.log.PageRun.{PageRun};
 ghost use Rattle.pl_event.specs.OpeningPages.{RiseFrom, pages_in};
 ghost use Rattle.lifeguard.specs.Rules.{Rules, KeepsLaws};
 ghost use Rattle.lifeguard.specs.State.{Bytes, first_state, paged};
 ghost use Rattle.order_core.specs.declared.course.TheConstants.{FIRST_WORD};
 ghost use Rattle.pl_base.specs.Pages.{count_below};
-ghost use Rattle.shadow_frames.specs.Opening.{opening_words};
+ghost use Rattle.shadow_frames.specs.Opening.{opening_words, state_in};
 ghost use Rattle.order_core.specs.Shapes.{Shape, AreSoundShapes, fill, after_shapes};
 ghost use Rattle.shadow_frames.specs.declared.words.TheConstants.{TABLE_WORDS};
 ghost use Rattle.shadow_frames.specs.Words.{WordsRepresent, AreFirstFrames, IsFilledWith, bit, directory_word, has_page, is_used, mapped_pages};
@@ -75,6 +76,8 @@ pub fn opening_represents()
     ensures zeros { (rules : Rules) (pages : List PageRun) → KeepsLaws rules → RiseFrom 0 pages
         → pages_in pages ≤ MAX_MAPPED_PAGES
         → (word : ℕ) → word < FIRST_WORD → opening_words rules.page_state pages word ≡ 0 }
+    ensures states { (rules : Rules)
+        → state_in (rules.page_state Data ∷ rules.page_state Heap ∷ rules.page_state Stack ∷ []) ≡ rules.page_state }
 {}
 
 /// Words that represent bytes have a frame for exactly the pages that are mapped.

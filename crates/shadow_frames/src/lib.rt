@@ -6,6 +6,7 @@
 #![tactic(auto)]
 
 mod bits;
+mod frame_map;
 mod laws;
 mod nibbles;
 mod opening;
@@ -13,6 +14,7 @@ mod slot;
 pub mod words;
 
 pub use bits::{has_bit, with_bit, without_bit};
+pub use frame_map::free_frame;
 pub use laws::{
     a_frame_is_free, next_frame, one_bit, page_operations, pages_mapped, pages_unmapped,
 };

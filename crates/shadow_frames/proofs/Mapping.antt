@@ -74,17 +74,17 @@ module _ (w : ℕ → ℕ) (p f fill : ℕ) (small : p < 4096) (inside : f < 512
   abbrev pub mapped : ℕ → ℕ
   mapped = put w (9 + f / 64) (w (9 + f / 64) + 2 ^ (f % 64))
 
-  abbrev pub told : ℕ → ℕ
-  told = put mapped (17 + p) (f + 1)
+  abbrev pub listed : ℕ → ℕ
+  listed = put mapped (17 + p) (f + 1)
 
   abbrev pub next : ℕ → ℕ
   next = after_shapes w (frame_shapes f p fill)
 
   pub in_frame : (k : ℕ) → k < 256 → next (4113 + 256 * f + k) ≡ fill
-  in_frame k lt = filled told (4113 + 256 * f) fill 256 (4113 + 256 * f + k) (omega arith) (omega arith)
+  in_frame k lt = filled listed (4113 + 256 * f) fill 256 (4113 + 256 * f + k) (omega arith) (omega arith)
 
-  pub below_frame : (x : ℕ) → (4113 + 256 * f ≤ x → x < 4113 + 256 * f + 256 → ⊥) → next x ≡ told x
-  below_frame x out = unfilled told (4113 + 256 * f) fill 256 x out
+  pub below_frame : (x : ℕ) → (4113 + 256 * f ≤ x → x < 4113 + 256 * f + 256 → ⊥) → next x ≡ listed x
+  below_frame x out = unfilled listed (4113 + 256 * f) fill 256 x out
 
   pub own_page : next (17 + p) ≡ f + 1
   own_page = below_frame (17 + p) (λ a b. omega arith) ∙ put_here mapped (17 + p) (f + 1)

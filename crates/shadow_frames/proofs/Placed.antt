@@ -20,7 +20,7 @@ module _ (xs ys : List ℕ) (p f filling v : ℕ) (size : length xs ≡ 135185) 
   abbrev w : ℕ → ℕ
   w u = slice_index xs u
 
-  two_sets : (u : ℕ) → slice_index (slice_set (slice_set xs (9 + f / 64) v) (17 + p) (f + 1)) u ≡ mapping.told w p f filling small low u
+  two_sets : (u : ℕ) → slice_index (slice_set (slice_set xs (9 + f / 64) v) (17 + p) (f + 1)) u ≡ mapping.listed w p f filling small low u
   two_sets u =
       let d : f / 64 < 8 = omega arith in
       let long : length (slice_set xs (9 + f / 64) v) ≡ length xs = length-set xs (9 + f / 64) v in

@@ -40,8 +40,9 @@ frame_or_none f = if nat_lt f MAX_MAPPED_PAGES then Some f else None
 -- the frame map is read, and page p gets frame f, whose words are filled
 abbrev pub frame_shapes : ℕ → ℕ → ℕ → List Shape
 frame_shapes f p filling =
-    reads FRAME_MAP_START ∷ reads (FRAME_MAP_START + 1) ∷ reads (FRAME_MAP_START + 2) ∷ reads (FRAME_MAP_START + 3)
-    ∷ reads (FRAME_MAP_START + 4) ∷ reads (FRAME_MAP_START + 5) ∷ reads (FRAME_MAP_START + 6) ∷ reads (FRAME_MAP_START + 7)
+    let first = FRAME_MAP_START in
+    reads first ∷ reads (first + 1) ∷ reads (first + 2) ∷ reads (first + 3)
+    ∷ reads (first + 4) ∷ reads (first + 5) ∷ reads (first + 6) ∷ reads (first + 7)
     ∷ writes (map_word f) (λ v. v + 2 ^ (f % 64)) ∷ writes (directory_word p) (λ _. f + 1)
     ∷ fills (frame_word f) filling FRAME_WORDS
 

@@ -15,7 +15,7 @@ use Rattle.lifeguard.specs.Plain.{is_taint, mask_bit}
 use Rattle.order_core.specs.Shapes.{Shape}
 use Rattle.shadow_frames.specs.declared.words.TheConstants.{FRAME_WORDS}
 use Rattle.shadow_frames.specs.Words.{all_nibbles, directory_word, shadow_word}
-use Rattle.shadow_frames.specs.Frames.{map_page, pages_from, reads_lanes, unmap_page, writes_lanes}
+use Rattle.shadow_frames.specs.Frames.{map_page, pages_from, reads, writes, reads_lanes, unmap_page, writes_lanes}
 
 abbrev pub is_addr : Name → Bool
 is_addr name.Addr = true
@@ -29,8 +29,11 @@ remade g i (suc n) x = g i (x % 16) % 16 + 16 * remade g (suc i) n (x / 16)
 
 -- what becomes of nibble i of a block where f says what becomes of each byte of a range
 abbrev pub in_block : (ℕ → ℕ → ℕ) → ℕ → ℕ → ℕ → ℕ → ℕ → ℕ
-in_block f addr len block i old = if is_in addr len (BLOCK_BYTES * block + i) then f (BLOCK_BYTES * block + i - addr) old else old
+in_block f addr len block i old =
+    let at = BLOCK_BYTES * block + i in
+    if is_in addr len at then f (at - addr) old else old
 
+-- a shadow word after the bytes of a range in its block are changed
 unfoldable pub changed_word : (ℕ → ℕ → ℕ) → ℕ → ℕ → ℕ → ℕ → ℕ
 changed_word f addr len block x = remade (in_block f addr len block) 0 16 x
 
@@ -46,13 +49,17 @@ block_word w block = shadow_word (w (block_directory block)) (BLOCK_BYTES * bloc
 
 -- a read of the directory word, and on a mapped page what is made of the shadow word
 abbrev pub on_block : (ℕ → ℕ) → ℕ → List Shape → List Shape
-on_block w block ss = reads_lanes false 15 (block_directory block) ∷ (if w (block_directory block) == 0 then [] else ss)
+on_block w block ss = reads (block_directory block) ∷ (if w (block_directory block) == 0 then [] else ss)
 
+-- a block's nibbles are changed
 unfoldable pub change_block : (ℕ → ℕ → ℕ) → ℕ → ℕ → (ℕ → ℕ) → ℕ → List Shape
-change_block f addr len w block = on_block w block (reads_lanes false 15 (block_word w block) ∷ writes_lanes 15 (block_word w block) (changed_word f addr len block) ∷ [])
+change_block f addr len w block =
+    let word = block_word w block in
+    on_block w block (reads word ∷ writes word (changed_word f addr len block) ∷ [])
 
+-- a block's nibbles are read
 unfoldable pub read_block : (ℕ → ℕ) → ℕ → List Shape
-read_block w block = on_block w block (reads_lanes false 15 (block_word w block) ∷ [])
+read_block w block = on_block w block (reads (block_word w block) ∷ [])
 
 -- how many blocks a range has
 abbrev pub blocks_of : ℕ → ℕ → ℕ
@@ -72,20 +79,32 @@ abbrev pub not_addr : Name → Bool
 not_addr n = if is_addr n then false else true
 
 module _ (rules : Rules) (size : ℕ) where
+  -- the read for the check of the access, which TaintCheck does not make, and that of the value, which AddrCheck does not
   unfoldable pub load_shapes : (ℕ → ℕ) → ℕ → List Shape
-  load_shapes w addr = on_block w (addr / BLOCK_BYTES)
-      (only (not_taint rules.name) (reads_lanes true (lanes_of size addr) (block_word w (addr / BLOCK_BYTES)) ∷ [])
-      ++ only (not_addr rules.name) (reads_lanes false (lanes_of size addr) (block_word w (addr / BLOCK_BYTES)) ∷ []))
+  load_shapes w addr =
+      let block = addr / BLOCK_BYTES in
+      let lanes = lanes_of size addr in
+      let word = block_word w block in
+      on_block w block (only (not_taint rules.name) (reads_lanes true lanes word ∷ [])
+      ++ only (not_addr rules.name) (reads_lanes false lanes word ∷ []))
 
+  -- the read for the check, then a read and the write of the bytes' nibbles; under AddrCheck a store leaves them
   unfoldable pub store_shapes : (ℕ → ℕ) → ℕ → ℕ → ℕ → List Shape
-  store_shapes w addr len mask = on_block w (addr / BLOCK_BYTES)
-      (only (not_taint rules.name) (reads_lanes true (lanes_of size addr) (block_word w (addr / BLOCK_BYTES)) ∷ [])
-      ++ only (not_addr rules.name) (reads_lanes false (lanes_of size addr) (block_word w (addr / BLOCK_BYTES))
-      ∷ writes_lanes (lanes_of size addr) (block_word w (addr / BLOCK_BYTES)) (changed_word (λ i old. rules.store_nibble old (mask_bit mask i)) addr len (addr / BLOCK_BYTES)) ∷ []))
+  store_shapes w addr len mask =
+      let block = addr / BLOCK_BYTES in
+      let lanes = lanes_of size addr in
+      let word = block_word w block in
+      let stored = changed_word (λ i old. rules.store_nibble old (mask_bit mask i)) addr len block in
+      on_block w block (only (not_taint rules.name) (reads_lanes true lanes word ∷ [])
+      ++ only (not_addr rules.name) (reads_lanes false lanes word ∷ writes_lanes lanes word stored ∷ []))
 
+  -- each block of the range
   abbrev pub range_shapes : RangeKind → (ℕ → ℕ) → ℕ → ℕ → List Shape
-  range_shapes kind w addr len = pages_from (change_block (λ i old. rules.range_state kind old) addr len) w (addr / BLOCK_BYTES) (blocks_of addr len)
+  range_shapes kind w addr len =
+      let change = change_block (λ i old. rules.range_state kind old) addr len in
+      pages_from change w (addr / BLOCK_BYTES) (blocks_of addr len)
 
+  -- the operations of a kind of event of a hart, where its masks and the words are these
   abbrev pub shapes : ℕ → Masks → (ℕ → ℕ) → Kind → List Shape
   shapes hart masks w (Ld width rd rb addr) = load_shapes w addr
   shapes hart masks w (St width rv rb addr) = store_shapes w addr (store_bytes width) (masks hart rv)

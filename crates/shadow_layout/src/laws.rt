@@ -25,7 +25,8 @@ pub fn event_operations()
     ensures represented { (rules : Rules) (size hart : ℕ) (masks : Masks) (bytes : Bytes) (w : ℕ → ℕ) (kind : Kind)
         → KeepsLaws rules → AreNibbles bytes → WordsRepresent w bytes → HasValidFields kind
         → KeepsPages (has_page bytes) kind
-        → WordsRepresent (after_shapes w (shapes rules size hart masks w kind)) (bytes_after rules hart kind bytes masks) }
+        → let operations = shapes rules size hart masks w kind in
+        WordsRepresent (after_shapes w operations) (bytes_after rules hart kind bytes masks) }
     ensures sound { (rules : Rules) (size hart : ℕ) (masks : Masks) (bytes : Bytes) (w : ℕ → ℕ) (kind : Kind)
         → KeepsLaws rules → AreNibbles bytes → WordsRepresent w bytes → HasValidFields kind
         → KeepsPages (has_page bytes) kind

@@ -79,7 +79,7 @@ abbrev pub not_addr : Name → Bool
 not_addr n = if is_addr n then false else true
 
 module _ (rules : Rules) (size : ℕ) where
-  -- the read for the check of the access, which TaintCheck does not make, and that of the value, which AddrCheck does not
+  -- the read for the check, which TaintCheck does not make, and that of the value, which AddrCheck does not make
   unfoldable pub load_shapes : (ℕ → ℕ) → ℕ → List Shape
   load_shapes w addr =
       let block = addr / BLOCK_BYTES in

@@ -1,4 +1,5 @@
-pub mod Bits
+pub mod BitLemmas
+pub mod NibbleLemmas
 pub mod Sound
 pub mod Ranges
 pub mod Mapping
@@ -7,3 +8,8 @@ pub mod Free
 pub mod First
 pub mod Many
 pub mod PageOperations
+pub mod MappedPages
+pub mod OpeningLemmas
+pub mod Placed
+pub mod Placing
+pub mod LowestFree

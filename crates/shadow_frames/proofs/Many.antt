@@ -110,7 +110,7 @@ one_more w v p small none some others =
 
 -- one page: words keep standing, and no other page is touched
 record IsPage (v w : ℕ → ℕ) (p : ℕ) (value : Option ℕ) (bytes : Bytes) : Type 0 where
-  stands : WordsRepresent v (replaced value (p * 4096) 4096 bytes)
+  represents : WordsRepresent v (replaced value (p * 4096) 4096 bytes)
   others : (q : ℕ) → q < 4096 → q ≢ p → v (17 + q) ≡ w (17 + q)
 
 not_zero : (x f : ℕ) → x ≡ f + 1 → x ≢ 0
@@ -127,7 +127,7 @@ module _ (w : ℕ → ℕ) (p : ℕ) (small : p < 4096) (bytes : Bytes) (st : Wo
     page_mapped : IsPage (after_shapes w (map_page filling w p)) w p (Some s) bytes
     unfolding map_page
     page_mapped = record {
-      stands = mapping.represents_next w p f filling small free.0 s bytes st none free.1 full;
+      represents = mapping.represents_next w p f filling small free.0 s bytes st none free.1 full;
       others = mapping.other_page w p f filling small free.0;
     }
 
@@ -144,7 +144,7 @@ module _ (w : ℕ → ℕ) (p : ℕ) (small : p < 4096) (bytes : Bytes) (st : Wo
   page_unmapped some =
       let e : w (17 + p) ≡ w (17 + p) - 1 + 1 = omega arith in
       record {
-        stands = unmapping.represents_next w p (w (17 + p) - 1) small bytes st e;
+        represents = unmapping.represents_next w p (w (17 + p) - 1) small bytes st e;
         others = unmapping.other_page w p (w (17 + p) - 1) small bytes st e;
       }
 
@@ -160,11 +160,11 @@ module _ (first : ℕ) (bytes : Bytes) where
   record IsThere (value : Option ℕ) (w : ℕ → ℕ) (p n : ℕ) : Type 0 where
     k : ℕ
     at : p ≡ first + k
-    stands : WordsRepresent w (replaced value (first * 4096) (k * 4096) bytes)
+    represents : WordsRepresent w (replaced value (first * 4096) (k * 4096) bytes)
     room : p + n ≤ 4096
 
   start : (value : Option ℕ) (w : ℕ → ℕ) (n : ℕ) → WordsRepresent w bytes → first + n ≤ 4096 → IsThere value w first n
-  start value w n st room = record { k = 0; at = omega arith; stands = represents_same w bytes (replaced value (first * 4096) (0 * 4096) bytes) (none_replaced value (first * 4096) bytes) st; room = room }
+  start value w n st room = record { k = 0; at = omega arith; represents = represents_same w bytes (replaced value (first * 4096) (0 * 4096) bytes) (none_replaced value (first * 4096) bytes) st; room = room }
 
   further : (value : Option ℕ) (w v : ℕ → ℕ) (p n : ℕ) → (t : IsThere value w p (suc n)) → IsPage v w p value (replaced value (first * 4096) (t.k * 4096) bytes) → IsThere value v (suc p) n
   further value w v p n t page =
@@ -173,13 +173,13 @@ module _ (first : ℕ) (bytes : Bytes) where
       record {
         k = t.k + 1;
         at = omega arith;
-        stands = represents_same v (replaced value (p * 4096) 4096 (replaced value (first * 4096) (t.k * 4096) bytes)) (replaced value (first * 4096) ((t.k + 1) * 4096) bytes)
-            (λ a. more_replaced value first t.k bytes a ∙ ap (λ (z : ℕ). replaced value (z * 4096) 4096 (replaced value (first * 4096) (t.k * 4096) bytes) a) (sym e)) page.stands;
+        represents = represents_same v (replaced value (p * 4096) 4096 (replaced value (first * 4096) (t.k * 4096) bytes)) (replaced value (first * 4096) ((t.k + 1) * 4096) bytes)
+            (λ a. more_replaced value first t.k bytes a ∙ ap (λ (z : ℕ). replaced value (z * 4096) 4096 (replaced value (first * 4096) (t.k * 4096) bytes) a) (sym e)) page.represents;
         room = omega arith;
       }
 
   finish : (value : Option ℕ) (w : ℕ → ℕ) (n : ℕ) → IsThere value w (first + n) 0 → WordsRepresent w (replaced value (first * 4096) (n * 4096) bytes)
-  finish value w n t = let e : t.k ≡ n = (let a : first + n ≡ first + t.k = t.at in omega arith) in subst (λ (z : ℕ). WordsRepresent w (replaced value (first * 4096) (z * 4096) bytes)) e t.stands
+  finish value w n t = let e : t.k ≡ n = (let a : first + n ≡ first + t.k = t.at in omega arith) in subst (λ (z : ℕ). WordsRepresent w (replaced value (first * 4096) (z * 4096) bytes)) e t.represents
 
   module _ (s filling : ℕ) (full : IsFilledWith filling s) (most : ℕ) (top : most ≤ 512) where
     record CanMap (w : ℕ → ℕ) (p n : ℕ) : Type 0 where
@@ -195,7 +195,7 @@ module _ (first : ℕ) (bytes : Bytes) where
         let all : mapped_pages w + suc n ≤ most = c.few in
         let few : mapped_pages w < 512 = omega arith in
         let here : w (17 + p) ≡ 0 = c.none p (omega arith) (omega arith) in
-        let st : WordsRepresent w (replaced (Some s) (first * 4096) (t.k * 4096) bytes) = t.stands in
+        let st : WordsRepresent w (replaced (Some s) (first * 4096) (t.k * 4096) bytes) = t.represents in
         let page = page_mapped w p small (replaced (Some s) (first * 4096) (t.k * 4096) bytes) st s filling full here few in
         let now = mapped_now w p small (replaced (Some s) (first * 4096) (t.k * 4096) bytes) st s filling full here few in
         let more : mapped_pages (after_shapes w (map_page filling w p)) ≡ 1 + mapped_pages w = one_more w (after_shapes w (map_page filling w p)) p small here now page.others in
@@ -226,7 +226,7 @@ module _ (first : ℕ) (bytes : Bytes) where
             let t : IsThere (Some s) w p (suc n) = c.there in
             let r : p + suc n ≤ 4096 = t.room in
             let all : mapped_pages w + suc n ≤ most = c.few in
-            page_sound w p (omega arith) (replaced (Some s) (first * 4096) (t.k * 4096) bytes) t.stands s filling full (c.none p (omega arith) (omega arith)) (omega arith)
+            page_sound w p (omega arith) (replaced (Some s) (first * 4096) (t.k * 4096) bytes) t.represents s filling full (c.none p (omega arith) (omega arith)) (omega arith)
 
   record CanUnmap (w : ℕ → ℕ) (p n : ℕ) : Type 0 where
     there : IsThere None w p n
@@ -237,7 +237,7 @@ module _ (first : ℕ) (bytes : Bytes) where
       let t : IsThere None w p (suc n) = c.there in
       let r : p + suc n ≤ 4096 = t.room in
       let small : p < 4096 = omega arith in
-      let page = page_unmapped w p small (replaced None (first * 4096) (t.k * 4096) bytes) t.stands (c.some p (omega arith) (omega arith)) in
+      let page = page_unmapped w p small (replaced None (first * 4096) (t.k * 4096) bytes) t.represents (c.some p (omega arith) (omega arith)) in
       record {
         there = further None w (after_shapes w (unmap_page w p)) p n t page;
         some = λ q low high e. c.some q (omega arith) (omega arith) (sym (page.others q (omega arith) (λ s. omega arith)) ∙ e);
@@ -256,4 +256,4 @@ module _ (first : ℕ) (bytes : Bytes) where
       good w p n c =
           let t : IsThere None w p (suc n) = c.there in
           let r : p + suc n ≤ 4096 = t.room in
-          freed_sound w p (omega arith) (replaced None (first * 4096) (t.k * 4096) bytes) t.stands (c.some p (omega arith) (omega arith))
+          freed_sound w p (omega arith) (replaced None (first * 4096) (t.k * 4096) bytes) t.represents (c.some p (omega arith) (omega arith))

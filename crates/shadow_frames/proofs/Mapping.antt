@@ -4,11 +4,11 @@ use mathlib.Core.Logic.{dite}
 use native.Mathlib.Decide.{ℕ_discrete}
 use Rattle.lifeguard.specs.State.{Bytes, replaced}
 use Rattle.shadow_frames.specs.Frames.{fills, frame_shapes}
-use Rattle.shadow_frames.specs.Words.{bit, is_used, nibble, shadow_word, byte_in, byte_of, WordsRepresent, IsFilledWith}
+use Rattle.shadow_frames.specs.Words.{bit, is_used, nibble_of, shadow_word, byte_in, byte_of, WordsRepresent, IsFilledWith}
 use Rattle.shadow_frames.proofs.Sound.{read_sound, write_sound}
 use Rattle.order_core.specs.Core.{put}
 use Rattle.order_core.specs.Shapes.{after_shapes, AreSoundShapes}
-use Rattle.shadow_frames.proofs.Bits.{set_bit}
+use Rattle.shadow_frames.proofs.BitLemmas.{set_bit}
 use Rattle.shadow_frames.proofs.Ranges.{in_span, off_span}
 
 pub put_here : (f : ℕ → ℕ) (h x : ℕ) → put f h x h ≡ x
@@ -74,17 +74,17 @@ module _ (w : ℕ → ℕ) (p f fill : ℕ) (small : p < 4096) (inside : f < 512
   abbrev pub mapped : ℕ → ℕ
   mapped = put w (9 + f / 64) (w (9 + f / 64) + 2 ^ (f % 64))
 
-  abbrev pub told : ℕ → ℕ
-  told = put mapped (17 + p) (f + 1)
+  abbrev pub listed : ℕ → ℕ
+  listed = put mapped (17 + p) (f + 1)
 
   abbrev pub next : ℕ → ℕ
   next = after_shapes w (frame_shapes f p fill)
 
   pub in_frame : (k : ℕ) → k < 256 → next (4113 + 256 * f + k) ≡ fill
-  in_frame k lt = filled told (4113 + 256 * f) fill 256 (4113 + 256 * f + k) (omega arith) (omega arith)
+  in_frame k lt = filled listed (4113 + 256 * f) fill 256 (4113 + 256 * f + k) (omega arith) (omega arith)
 
-  pub below_frame : (x : ℕ) → (4113 + 256 * f ≤ x → x < 4113 + 256 * f + 256 → ⊥) → next x ≡ told x
-  below_frame x out = unfilled told (4113 + 256 * f) fill 256 x out
+  pub below_frame : (x : ℕ) → (4113 + 256 * f ≤ x → x < 4113 + 256 * f + 256 → ⊥) → next x ≡ listed x
+  below_frame x out = unfilled listed (4113 + 256 * f) fill 256 x out
 
   pub own_page : next (17 + p) ≡ f + 1
   own_page = below_frame (17 + p) (λ a b. omega arith) ∙ put_here mapped (17 + p) (f + 1)
@@ -129,7 +129,7 @@ module _ (w : ℕ → ℕ) (p f fill : ℕ) (small : p < 4096) (inside : f < 512
     own_byte a lt own =
         let d : next (17 + a / 4096) ≡ suc f = ap (λ (x : ℕ). next (17 + x)) own ∙ (own_page ∙ omega arith) in
         ap (byte_in next a) d
-        ∙ ap Some (ap (λ (v : ℕ). nibble v (a % 16)) (ap next (omega arith) ∙ in_frame (a % 4096 / 16) (omega arith)) ∙ full (a % 16) (omega arith))
+        ∙ ap Some (ap (λ (v : ℕ). nibble_of v (a % 16)) (ap next (omega arith) ∙ in_frame (a % 4096 / 16) (omega arith)) ∙ full (a % 16) (omega arith))
 
     other_byte : (a : ℕ) → a < 2 ^ 24 → a / 4096 ≢ p → byte_of next a ≡ byte_of w a
     other_byte a lt other =
@@ -142,7 +142,7 @@ module _ (w : ℕ → ℕ) (p f fill : ℕ) (small : p < 4096) (inside : f < 512
         by (suc d) e =
             let apart : d ≢ f = frames_apart bytes st free (a / 4096) d (omega arith) e in
             let k : a % 4096 / 16 < 256 = omega arith in
-            ap (λ (v : ℕ). Some (nibble v (a % 16))) (other_frame (shadow_word (suc d) a) (omega arith) (λ x y. apart (omega arith)))
+            ap (λ (v : ℕ). Some (nibble_of v (a % 16))) (other_frame (shadow_word (suc d) a) (omega arith) (λ x y. apart (omega arith)))
 
     pub represents_next : WordsRepresent next (replaced (Some s) (p * 4096) 4096 bytes)
     unfolding replaced

@@ -6,9 +6,9 @@ use Rattle.order_core.specs.Core.{put}
 use Rattle.order_core.specs.Shapes.{after_shapes, AreSoundShapes}
 use Rattle.lifeguard.specs.State.{Bytes, replaced}
 use Rattle.shadow_frames.specs.Frames.{freed_shapes}
-use Rattle.shadow_frames.specs.Words.{bit, is_used, nibble, shadow_word, byte_in, byte_of, WordsRepresent}
+use Rattle.shadow_frames.specs.Words.{bit, is_used, nibble_of, shadow_word, byte_in, byte_of, WordsRepresent}
 use Rattle.shadow_frames.proofs.Sound.{read_sound, write_sound}
-use Rattle.shadow_frames.proofs.Bits.{clear_bit}
+use Rattle.shadow_frames.proofs.BitLemmas.{clear_bit}
 use Rattle.shadow_frames.proofs.Mapping.{put_here, put_else}
 use Rattle.shadow_frames.proofs.Ranges.{in_span, off_span}
 
@@ -62,7 +62,7 @@ module _ (w : ℕ → ℕ) (p f : ℕ) (small : p < 4096) (bytes : Bytes) (st : 
     where
       by : (d : ℕ) → byte_in next a d ≡ byte_in w a d
       by zero = refl
-      by (suc d) = ap (λ (v : ℕ). Some (nibble v (a % 16))) (shadow (shadow_word (suc d) a) (omega arith))
+      by (suc d) = ap (λ (v : ℕ). Some (nibble_of v (a % 16))) (shadow (shadow_word (suc d) a) (omega arith))
 
   -- another page is on another frame
   apart_from : (q g : ℕ) → q < 4096 → q ≢ p → w (17 + q) ≡ g + 1 → g ≢ f

@@ -1,5 +1,5 @@
 -- How pages get frames, and how their frames are freed, as operations on words.
-use Rattle.std.specs.Prelude.{ℕ, zero, suc, ◌+◌, ◌-◌, ◌%◌, ◌^◌, Bool, true, false, List, [], ◌∷◌, ◌++◌, if◌then◌else◌}
+use Rattle.std.specs.Prelude.{ℕ, zero, suc, ◌+◌, ◌-◌, ◌%◌, ◌^◌, Bool, true, false, nat_lt, Option, Some, None, List, [], ◌∷◌, ◌++◌, if◌then◌else◌}
 use Rattle.pl_base.specs.declared.layout.TheConstants.{MAX_MAPPED_PAGES}
 use Rattle.order_core.specs.Shapes.{Shape, after_shapes}
 use Rattle.shadow_frames.specs.declared.words.TheConstants.{FRAME_MAP_START, FRAME_WORDS}
@@ -33,11 +33,16 @@ free_from w f (suc n) = if is_used w f then free_from w (suc f) n else f
 unfoldable pub lowest_free : (ℕ → ℕ) → ℕ
 lowest_free w = free_from w 0 MAX_MAPPED_PAGES
 
+-- the number of a frame, or none where there is no such frame
+abbrev pub frame_or_none : ℕ → Option ℕ
+frame_or_none f = if nat_lt f MAX_MAPPED_PAGES then Some f else None
+
 -- the frame map is read, and page p gets frame f, whose words are filled
 abbrev pub frame_shapes : ℕ → ℕ → ℕ → List Shape
 frame_shapes f p filling =
-    reads FRAME_MAP_START ∷ reads (FRAME_MAP_START + 1) ∷ reads (FRAME_MAP_START + 2) ∷ reads (FRAME_MAP_START + 3)
-    ∷ reads (FRAME_MAP_START + 4) ∷ reads (FRAME_MAP_START + 5) ∷ reads (FRAME_MAP_START + 6) ∷ reads (FRAME_MAP_START + 7)
+    let first = FRAME_MAP_START in
+    reads first ∷ reads (first + 1) ∷ reads (first + 2) ∷ reads (first + 3)
+    ∷ reads (first + 4) ∷ reads (first + 5) ∷ reads (first + 6) ∷ reads (first + 7)
     ∷ writes (map_word f) (λ v. v + 2 ^ (f % 64)) ∷ writes (directory_word p) (λ _. f + 1)
     ∷ fills (frame_word f) filling FRAME_WORDS
 

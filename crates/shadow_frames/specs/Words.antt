@@ -1,14 +1,23 @@
 -- The words of the table, and the bytes of memory that they represent.
-use Rattle.std.specs.Prelude.{◌≡◌, ◌≢◌, ℕ, zero, suc, ◌+◌, ◌*◌, ◌-◌, ◌/◌, ◌%◌, ◌^◌, ◌<◌, ◌≤◌, Bool, true, ◌==◌, nat_lt, Option, Some, None}
+use Rattle.std.specs.Prelude.{◌≡◌, ◌≢◌, ℕ, zero, suc, ◌+◌, ◌*◌, ◌-◌, ◌/◌, ◌%◌, ◌^◌, ◌<◌, ◌≤◌, Bool, true, false, ◌==◌, nat_lt, Option, Some, None}
 use Rattle.pl_base.specs.Pages.{count_below}
 use Rattle.pl_base.specs.declared.layout.TheConstants.{BLOCK_BYTES, MAX_MAPPED_PAGES, MEMORY_BYTES, PAGE_BYTES, PAGE_COUNT}
 use Rattle.lifeguard.specs.State.{Bytes}
 use Rattle.shadow_frames.specs.declared.words.TheConstants.{FRAME_MAP_START, DIRECTORY_START, SHADOW_START, FRAME_WORDS}
 
 -- nibble 0 of a word is its lowest four bits, and nibble i + 1 is nibble i of the other bits
-abbrev pub nibble : ℕ → ℕ → ℕ
-nibble word zero = word % 16
-nibble word (suc i) = nibble (word / 16) i
+abbrev pub nibble_of : ℕ → ℕ → ℕ
+nibble_of word zero = word % 16
+nibble_of word (suc i) = nibble_of (word / 16) i
+
+-- the word whose lowest n nibbles are all s
+abbrev pub repeated : ℕ → ℕ → ℕ
+repeated s zero = 0
+repeated s (suc n) = s + 16 * repeated s n
+
+-- the word whose sixteen nibbles are all s
+unfoldable pub all_nibbles : ℕ → ℕ
+all_nibbles s = repeated s 16
 
 -- bit k of a word
 abbrev pub bit : ℕ → ℕ → Bool
@@ -36,7 +45,7 @@ shadow_word d addr = frame_word (d - 1) + addr % PAGE_BYTES / BLOCK_BYTES
 
 abbrev pub byte_in : (ℕ → ℕ) → ℕ → ℕ → Option ℕ
 byte_in w addr zero = None
-byte_in w addr (suc d) = Some (nibble (w (shadow_word (suc d) addr)) (addr % BLOCK_BYTES))
+byte_in w addr (suc d) = Some (nibble_of (w (shadow_word (suc d) addr)) (addr % BLOCK_BYTES))
 
 -- the nibble of an address in the frame of its page, or none where the page has no frame
 abbrev pub byte_of : (ℕ → ℕ) → Bytes
@@ -54,8 +63,18 @@ pub record WordsRepresent (w : ℕ → ℕ) (bytes : Bytes) : Type 0 where
 
 -- all sixteen nibbles of a word are this one
 abbrev pub IsFilledWith : ℕ → ℕ → Type 0
-IsFilledWith word s = (i : ℕ) → i < 16 → nibble word i ≡ s
+IsFilledWith word s = (i : ℕ) → i < 16 → nibble_of word i ≡ s
 
+-- whether there is one
+abbrev pub is_there : Option ℕ → Bool
+is_there None = false
+is_there (Some n) = true
+
+-- whether the first byte of a page is one of a mapped page
+abbrev pub has_page : Bytes → ℕ → Bool
+has_page bytes page = is_there (bytes (page * PAGE_BYTES))
+
+-- whether the directory has a frame for the page
 abbrev pub is_mapped : (ℕ → ℕ) → ℕ → Bool
 is_mapped w page = nat_lt 0 (w (directory_word page))
 

@@ -1,10 +1,17 @@
 //! What mapping and unmapping pages makes of the words and of the bytes that they represent.
-ghost use Rattle.std.specs.Prelude.{◌≡◌, ◌≢◌, ℕ, ◌+◌, ◌*◌, ◌-◌, ◌^◌, ◌<◌, ◌≤◌, ◌==◌, Bool, true, false, List, length, slice_get, None, Some, if◌then◌else◌};
+ghost use Rattle.std.specs.Prelude.{◌≡◌, ◌≢◌, ℕ, ◌+◌, ◌*◌, ◌-◌, ◌^◌, ◌<◌, ◌≤◌, ◌==◌, Bool, true, false, List, [], ◌∷◌, length, slice_get, None, Some, if◌then◌else◌};
 ghost use Rattle.pl_base.specs.declared.layout.TheConstants.{MAX_MAPPED_PAGES, PAGE_COUNT};
-ghost use Rattle.lifeguard.specs.State.{Bytes, paged};
+ghost use Rattle.pl_event.specs.declared.log.PageKind.TheVariants.{Data, Heap, Stack};
+ghost use Rattle.pl_event.specs.declared.log.PageRun.{PageRun};
+ghost use Rattle.pl_event.specs.OpeningPages.{RiseFrom, pages_in};
+ghost use Rattle.lifeguard.specs.Rules.{Rules, KeepsLaws};
+ghost use Rattle.lifeguard.specs.State.{Bytes, first_state, paged};
+ghost use Rattle.order_core.specs.declared.course.TheConstants.{FIRST_WORD};
+ghost use Rattle.pl_base.specs.Pages.{count_below};
+ghost use Rattle.shadow_frames.specs.Opening.{opening_words, state_in};
 ghost use Rattle.order_core.specs.Shapes.{Shape, AreSoundShapes, fill, after_shapes};
 ghost use Rattle.shadow_frames.specs.declared.words.TheConstants.{TABLE_WORDS};
-ghost use Rattle.shadow_frames.specs.Words.{WordsRepresent, AreFirstFrames, IsFilledWith, bit, directory_word, is_used, mapped_pages};
+ghost use Rattle.shadow_frames.specs.Words.{WordsRepresent, AreFirstFrames, IsFilledWith, bit, directory_word, has_page, is_used, mapped_pages};
 ghost use Rattle.shadow_frames.specs.Frames.{lowest_free, map_page, unmap_page, pages_from, frame_shapes};
 
 /// A bit that is not set can be added, and one that is set taken away.
@@ -59,4 +66,26 @@ pub fn page_operations()
         let here = page (after_shapes w before) (p + k) in
         j < length here → slice_get (fill w (pages_from page w p n)) (length before + j)
         ≡ slice_get (fill (after_shapes w before) here) j }
+{}
+
+/// The opening words represent the bytes of the first state, and the words that no operation names are 0.
+pub fn opening_represents()
+    ensures represented { (rules : Rules) (pages : List PageRun) → KeepsLaws rules → RiseFrom 0 pages
+        → pages_in pages ≤ MAX_MAPPED_PAGES
+        → WordsRepresent (opening_words rules.page_state pages) (first_state rules pages).bytes }
+    ensures zeros { (rules : Rules) (pages : List PageRun) → KeepsLaws rules → RiseFrom 0 pages
+        → pages_in pages ≤ MAX_MAPPED_PAGES
+        → (word : ℕ) → word < FIRST_WORD → opening_words rules.page_state pages word ≡ 0 }
+    ensures states { (rules : Rules)
+        → state_in (rules.page_state Data ∷ rules.page_state Heap ∷ rules.page_state Stack ∷ []) ≡ rules.page_state }
+{}
+
+/// Words that represent bytes have a frame for exactly the pages that are mapped.
+pub fn pages_represented()
+    ensures count { (w : ℕ → ℕ) (bytes : Bytes) → WordsRepresent w bytes
+        → mapped_pages w ≡ count_below (has_page bytes) PAGE_COUNT }
+    ensures unmapped { (w : ℕ → ℕ) (bytes : Bytes) → WordsRepresent w bytes → (page : ℕ) → page < PAGE_COUNT
+        → has_page bytes page ≡ false → w (directory_word page) ≡ 0 }
+    ensures mapped { (w : ℕ → ℕ) (bytes : Bytes) → WordsRepresent w bytes → (page : ℕ) → page < PAGE_COUNT
+        → has_page bytes page ≡ true → w (directory_word page) ≢ 0 }
 {}

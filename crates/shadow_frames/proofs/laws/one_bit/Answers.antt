@@ -1,4 +1,4 @@
-use Rattle.shadow_frames.proofs.Bits.{set_bit, clear_bit, set_fits}
+use Rattle.shadow_frames.proofs.BitLemmas.{set_bit, clear_bit, set_fits}
 use Rattle.shadow_frames.proofs.laws.one_bit.Goals as goal
 
 pub returns-clause-set : goal.returns-clause-set

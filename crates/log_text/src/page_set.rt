@@ -1,4 +1,5 @@
 ghost use Rattle.std.specs.Prelude.{◌≡◌, ◌+◌, ◌≤◌, length, false, true, not, IfOk};
+ghost use Rattle.pl_base.specs.declared.layout.TheConstants.{PAGE_COUNT};
 ghost use Rattle.log_text.specs.Pages.{holds_at, some_page};
 ghost use Rattle.pl_base.specs.Pages.{marked, count_below};
 
@@ -10,8 +11,8 @@ use std::alloc::{AllocError, Global};
 pub struct PageSet {
     pages: Vec<bool>,
     mapped: u32,
-    ghost all_pages: { length pages.items ≡ 4096 },
-    ghost counted: { mapped ≡ count_below (holds_at pages.items) 4096 },
+    ghost all_pages: { length pages.items ≡ PAGE_COUNT },
+    ghost counted: { mapped ≡ count_below (holds_at pages.items) PAGE_COUNT },
 }
 
 impl PageSet {

@@ -6,6 +6,7 @@
 ghost use Rattle.std.specs.Prelude.{◌≡◌, ◌≢◌, ◌≤◌, ◌<◌, ◌+◌, ◌^◌, ℕ, List, ◌++◌, ◌∷◌, [], All, length, true, false, Ok, Err, IfOk, IfErr, OnOk, IsErrOf};
 ghost use Rattle.std.specs.declared.option.Option.{Option};
 ghost use Rattle.std.specs.Io.KnownBytes.{IsAtEnd};
+ghost use Rattle.pl_base.specs.declared.layout.TheConstants.{PAGE_COUNT};
 ghost use Rattle.pl_base.specs.Causes.{Rose, HasReadCause};
 ghost use Rattle.log_text.specs.declared.cause.LogFault.{LogFault};
 ghost use Rattle.pl_base.specs.Fronts.{TakesFront};
@@ -105,7 +106,7 @@ impl LogStream {
     pub fn open<S: Source>(alloc: Global, source: &mut S, limit: u32) -> Result<Opening, LogEnd>
         requires { limit < 2 ^ 31 }
         ensures harts { IfOk result (λ opening. (1 ≤ opening.harts) × (opening.harts ≤ 8)) }
-        ensures pages { IfOk result (λ opening. All (λ run. run.first + run.count ≤ 4096) opening.pages) }
+        ensures pages { IfOk result (λ opening. All (λ run. run.first + run.count ≤ PAGE_COUNT) opening.pages) }
         ensures ok { IfOk result (λ opening.
             IsStreamed limit (S.left source.old) (S.left source.new) opening.stream (begun_log opening)) }
         ensures end { IfErr result (IsEnd limit (S.left source.old) (S.left source.new)) }

@@ -5,7 +5,7 @@ use Rattle.order_core.specs.declared.course.TheConstants.{FIRST_WORD}
 use Rattle.order_core.specs.declared.course.Course.{Course}
 use Rattle.order_core.specs.declared.course.Operation.{Operation}
 use Rattle.order_core.specs.Lanes.{lane}
-use Rattle.order_core.specs.Course.{last_lane}
+use Rattle.order_core.specs.Course.{Planned, course, last_lane}
 use Rattle.order_core.specs.Lawful.{IsName}
 use Rattle.order_core.specs.Core.{IsOpen, IsNextWrite}
 use Rattle.guard_table.specs.declared.view.View.{View}
@@ -29,15 +29,16 @@ seat_view s = s.seat.me.0
 abbrev pub note_view : Note → View
 note_view n = n.seat.me.0
 
--- they are of the monitor's table, whose plan has this course
-abbrev pub IsHeadOf : {P : Type 0} → Monitor P → Course → Head → Type 0
-IsHeadOf m c h = (h.seat.table_id ≡ m.table.shared.table_id) × ((head_view h).course ≡ c)
+-- they are of the monitor's table, and have the course of its plan
+module _ {P : Type 0} (planned : P → Planned) (m : Monitor P) where
+  abbrev pub IsHeadOf : Head → Type 0
+  IsHeadOf h = (h.seat.table_id ≡ m.table.shared.table_id) × ((head_view h).course ≡ course planned m.plan)
 
-abbrev pub IsSeatOf : {P : Type 0} → Monitor P → Course → GuardSeat → Type 0
-IsSeatOf m c s = (s.seat.table_id ≡ m.table.shared.table_id) × ((seat_view s).course ≡ c)
+  abbrev pub IsSeatOf : GuardSeat → Type 0
+  IsSeatOf s = (s.seat.table_id ≡ m.table.shared.table_id) × ((seat_view s).course ≡ course planned m.plan)
 
-abbrev pub IsNoteOf : {P : Type 0} → Monitor P → Course → Note → Type 0
-IsNoteOf m c n = (n.seat.table_id ≡ m.table.shared.table_id) × ((note_view n).course ≡ c)
+  abbrev pub IsNoteOf : Note → Type 0
+  IsNoteOf n = (n.seat.table_id ≡ m.table.shared.table_id) × ((note_view n).course ≡ course planned m.plan)
 
 -- the operation a, at p, is the read of this name of the word, which is for a check or not, and the hart may make it
 pub record IsReadNow (c : Course) (v : View) (number op word : ℕ) (check : Bool) (p : ℕ) (a : Operation) : Type 0 where

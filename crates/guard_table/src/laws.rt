@@ -6,7 +6,7 @@ ghost use Rattle.order_core.specs.declared.course.Operation.{Operation};
 ghost use Rattle.order_core.specs.declared.steps.Act.{Act};
 ghost use Rattle.order_core.specs.declared.steps.Act.TheVariants.{See, Advertise, Perform};
 ghost use Rattle.order_core.specs.Lanes.{HasValueOf, Meets};
-ghost use Rattle.order_core.specs.Course.{course_of, length_of};
+ghost use Rattle.order_core.specs.Course.{course, length_of};
 ghost use Rattle.order_core.specs.Lawful.{IsLawful};
 ghost use Rattle.order_core.specs.Core.{opening_core, IsPassed, IsOpen, IsNextWrite};
 ghost use Rattle.guard_table.specs.declared.put.Put.{Put};
@@ -28,7 +28,7 @@ use order_core::Plan;
 /// represent a consistent state of the core.
 pub fn rule_of_table<P: Plan>()
     ensures { (plan : P) (s : Table) → ⟦<CoreRule as TableRule<(), View, P>>⟧.holds plan s →
-        HoldsCore (course_of (P.planned plan)) s }
+        HoldsCore (course P.planned plan) s }
 {}
 
 /// The words and the view of the first seat represent the opening state of the core. A step of the core leads from

@@ -4,7 +4,7 @@ ghost use Rattle.std.specs.List.{Contains};
 ghost use Rattle.pl_base.specs.declared.layout.TheConstants.{MAX_HARTS};
 ghost use Rattle.order_core.specs.declared.course.Operation.{Operation};
 ghost use Rattle.order_core.specs.Lanes.{HasValueOf};
-ghost use Rattle.order_core.specs.Course.{course_of, length_of};
+ghost use Rattle.order_core.specs.Course.{course, length_of};
 ghost use Rattle.order_core.specs.Core.{IsPassed};
 ghost use Rattle.guard_table.specs.Views.{first_view, made_seat, fresh_view, freed_seat, told_by, learnt_from};
 ghost use Rattle.guard_table.specs.Views.{looked, advertised, wrote};
@@ -26,8 +26,8 @@ impl<P: Plan + Drop> Monitor<P> {
     pub fn new(alloc: Global, plan: P, words: Vec<u64>) -> Result<(Monitor<P>, Head), NoMemory>
         requires { words.items ≡ (P.planned plan).opening }
         ensures plan { IfOk result (λ r. r.0.plan ≡ plan) }
-        ensures of { IfOk result (λ r. IsHeadOf r.0 (course_of (P.planned plan)) r.1) }
-        ensures head { IfOk result (λ r. head_view r.1 ≡ first_view (course_of (P.planned plan))) }
+        ensures of { IfOk result (λ r. IsHeadOf P.planned r.0 r.1) }
+        ensures head { IfOk result (λ r. head_view r.1 ≡ first_view (course P.planned plan)) }
     {
         let (table, seat) = Table::of_words(alloc, words.as_slice(), &plan)?;
         Ok((Monitor { table, plan }, Head { seat }))
@@ -51,11 +51,11 @@ impl<P: Plan> Monitor<P> {
 
     // The seat of hart `HART`: what a split makes of a view may depend on types alone.
     fn make_seat<const HART: u8>(&self, head: &mut Head) -> Seat<(), View>
-        requires of { IsHeadOf self.now (course_of (P.planned self.now.plan)) head.old }
+        requires of { IsHeadOf P.planned self.now head.old }
         requires eight { HART < MAX_HARTS }
         requires inside { HART < (P.planned self.now.plan).log.harts }
         requires once { Contains (head_view head.old).made HART → ⊥ }
-        ensures of { IsHeadOf self.now (course_of (P.planned self.now.plan)) head.new }
+        ensures of { IsHeadOf P.planned self.now head.new }
         ensures head { head_view head.new ≡ made_seat HART (head_view head.old) }
         ensures table { result.table_id ≡ self.now.table.shared.table_id }
         ensures seat { result.me ≡ (fresh_view HART (head_view head.old), []) }
@@ -65,12 +65,12 @@ impl<P: Plan> Monitor<P> {
 
     /// The seat of a hart of the run, which is made once.
     pub fn seat(&self, head: &mut Head, hart: u8) -> GuardSeat
-        requires of { IsHeadOf self.now (course_of (P.planned self.now.plan)) head.old }
+        requires of { IsHeadOf P.planned self.now head.old }
         requires inside { hart < (P.planned self.now.plan).log.harts }
         requires once { Contains (head_view head.old).made hart → ⊥ }
-        ensures of { IsHeadOf self.now (course_of (P.planned self.now.plan)) head.new }
+        ensures of { IsHeadOf P.planned self.now head.new }
         ensures head { head_view head.new ≡ made_seat hart (head_view head.old) }
-        ensures seat_of { IsSeatOf self.now (course_of (P.planned self.now.plan)) result }
+        ensures seat_of { IsSeatOf P.planned self.now result }
         ensures seat { seat_view result ≡ fresh_view hart (head_view head.old) }
     {
         let seat = match hart {
@@ -93,10 +93,10 @@ impl<P: Plan> Monitor<P> {
 
     /// Loads the progress word of hart `u`, another hart of the run: no less than what the seat saw or learnt of it.
     pub fn seen(&self, seat: &mut GuardSeat, u: u8) -> u64
-        requires of { IsSeatOf self.now (course_of (P.planned self.now.plan)) seat.old }
+        requires of { IsSeatOf P.planned self.now seat.old }
         requires inside { u < (P.planned self.now.plan).log.harts }
         requires other { u ≢ (seat_view seat.old).hart }
-        ensures of { IsSeatOf self.now (course_of (P.planned self.now.plan)) seat.new }
+        ensures of { IsSeatOf P.planned self.now seat.new }
         ensures view { seat_view seat.new ≡ looked u result (seat_view seat.old) }
         ensures saw { slice_index (seat_view seat.old).seen u ≤ result }
         ensures learnt { slice_index (seat_view seat.old).learnt u ≤ result }
@@ -110,10 +110,10 @@ impl<P: Plan> Monitor<P> {
 
     /// A note of the seat's hart and its progress word.
     pub fn note(&self, seat: &mut GuardSeat) -> Note
-        requires { IsSeatOf self.now (course_of (P.planned self.now.plan)) seat.old }
-        ensures of { IsSeatOf self.now (course_of (P.planned self.now.plan)) seat.new }
+        requires { IsSeatOf P.planned self.now seat.old }
+        ensures of { IsSeatOf P.planned self.now seat.new }
         ensures view { seat_view seat.new ≡ seat_view seat.old }
-        ensures note_of { IsNoteOf self.now (course_of (P.planned self.now.plan)) result }
+        ensures note_of { IsNoteOf P.planned self.now result }
         ensures note { note_view result ≡ told_by (seat_view seat.old) }
     {
         let hart = seat.hart;
@@ -124,9 +124,9 @@ impl<P: Plan> Monitor<P> {
 
     /// The seat learns what the note tells of its hart.
     pub fn learn(&self, seat: &mut GuardSeat, note: Note)
-        requires of { IsSeatOf self.now (course_of (P.planned self.now.plan)) seat.old }
-        requires note { IsNoteOf self.now (course_of (P.planned self.now.plan)) note }
-        ensures of { IsSeatOf self.now (course_of (P.planned self.now.plan)) seat.new }
+        requires of { IsSeatOf P.planned self.now seat.old }
+        requires note { IsNoteOf P.planned self.now note }
+        ensures of { IsSeatOf P.planned self.now seat.new }
         ensures view { seat_view seat.new ≡ learnt_from (note_view note) (seat_view seat.old) }
         ensures learnt { let n = note_view note in
             slice_index (seat_view seat.new).learnt n.hart ≡
@@ -142,11 +142,11 @@ impl<P: Plan> Monitor<P> {
 
     /// Stores the seat's own progress word, which does not fall: its hart has passed its records up to `upto`.
     pub fn advertise(&self, seat: &mut GuardSeat, upto: u64)
-        requires of { IsSeatOf self.now (course_of (P.planned self.now.plan)) seat.old }
+        requires of { IsSeatOf P.planned self.now seat.old }
         requires rises { (seat_view seat.old).progress ≤ upto }
         requires passed { let v = seat_view seat.old in
-            IsPassed (course_of (P.planned self.now.plan)) v.written (slice_index v.seen) v.hart upto }
-        ensures of { IsSeatOf self.now (course_of (P.planned self.now.plan)) seat.new }
+            IsPassed (course P.planned self.now.plan) v.written (slice_index v.seen) v.hart upto }
+        ensures of { IsSeatOf P.planned self.now seat.new }
         ensures view { seat_view seat.new ≡ advertised upto (seat_view seat.old) }
     {
         self.table
@@ -158,12 +158,12 @@ impl<P: Plan> Monitor<P> {
     /// The word, which has in the lanes of the read the value of the sequential run there. The read is operation `op`
     /// of the hart's record `number`, and no check read. It may be made late, again or never.
     pub fn read(&self, seat: &mut GuardSeat, number: u32, op: u32, word: u32) -> u64
-        requires of { IsSeatOf self.now (course_of (P.planned self.now.plan)) seat.old }
-        requires may { let c = course_of (P.planned self.now.plan) in
+        requires of { IsSeatOf P.planned self.now seat.old }
+        requires may { let c = course P.planned self.now.plan in
             (p : ℕ) × (a : Operation) × IsReadNow c (seat_view seat.old) number op word false p a }
-        ensures of { IsSeatOf self.now (course_of (P.planned self.now.plan)) seat.new }
+        ensures of { IsSeatOf P.planned self.now seat.new }
         ensures view { seat_view seat.new ≡ seat_view seat.old }
-        ensures value { let c = course_of (P.planned self.now.plan) in
+        ensures value { let c = course P.planned self.now.plan in
             (p : ℕ) (a : Operation) → IsReadNow c (seat_view seat.old) number op word false p a →
             HasValueOf a.what result }
     {
@@ -181,12 +181,12 @@ impl<P: Plan> Monitor<P> {
         word: u32,
         steps: &mut Steps<L>,
     ) -> u64
-        requires of { IsSeatOf self.now (course_of (P.planned self.now.plan)) seat.old }
-        requires may { let c = course_of (P.planned self.now.plan) in
+        requires of { IsSeatOf P.planned self.now seat.old }
+        requires may { let c = course P.planned self.now.plan in
             (p : ℕ) × (a : Operation) × IsReadNow c (seat_view seat.old) number op word true p a }
-        ensures of { IsSeatOf self.now (course_of (P.planned self.now.plan)) seat.new }
+        ensures of { IsSeatOf P.planned self.now seat.new }
         ensures view { seat_view seat.new ≡ seat_view seat.old }
-        ensures value { let c = course_of (P.planned self.now.plan) in
+        ensures value { let c = course P.planned self.now.plan in
             (p : ℕ) (a : Operation) → IsReadNow c (seat_view seat.old) number op word true p a →
             HasValueOf a.what result }
         ensures steps { steps.new ≡ steps.old + 1 }
@@ -199,10 +199,10 @@ impl<P: Plan> Monitor<P> {
 
     /// Performs the hart's next write, which is operation `op` of its record `number`.
     pub fn write(&self, seat: &mut GuardSeat, number: u32, op: u32, word: u32, put: Put)
-        requires of { IsSeatOf self.now (course_of (P.planned self.now.plan)) seat.old }
-        requires may { let c = course_of (P.planned self.now.plan) in
+        requires of { IsSeatOf P.planned self.now seat.old }
+        requires may { let c = course P.planned self.now.plan in
             (p : ℕ) × (a : Operation) × IsWriteNow c (seat_view seat.old) number op word put p a }
-        ensures of { IsSeatOf self.now (course_of (P.planned self.now.plan)) seat.new }
+        ensures of { IsSeatOf P.planned self.now seat.new }
         ensures view { seat_view seat.new ≡ wrote (seat_view seat.old) }
     {
         let table = &self.table.shared;
@@ -216,11 +216,11 @@ impl<P: Plan> Monitor<P> {
 
     /// The head takes back the seat of a hart that has advertised all its records.
     pub fn give_back(&self, head: &mut Head, seat: GuardSeat)
-        requires of { IsHeadOf self.now (course_of (P.planned self.now.plan)) head.old }
-        requires seat { IsSeatOf self.now (course_of (P.planned self.now.plan)) seat }
+        requires of { IsHeadOf P.planned self.now head.old }
+        requires seat { IsSeatOf P.planned self.now seat }
         requires ended { let v = seat_view seat in
-            v.progress ≡ length_of (course_of (P.planned self.now.plan)) v.hart }
-        ensures of { IsHeadOf self.now (course_of (P.planned self.now.plan)) head.new }
+            v.progress ≡ length_of (course P.planned self.now.plan) v.hart }
+        ensures of { IsHeadOf P.planned self.now head.new }
         ensures head { head_view head.new ≡ freed_seat (seat_view seat).hart (head_view head.old) }
     {
         let GuardSeat {
@@ -237,10 +237,10 @@ impl<P: Plan> Monitor<P> {
 impl<P: Plan + Drop> Monitor<P> {
     /// The last words of the run, where the head has taken back the seats of all harts.
     pub fn close(self, alloc: Global, head: Head) -> Result<Vec<u64>, CloseRefused<P>>
-        requires of { IsHeadOf self (course_of (P.planned self.plan)) head }
+        requires of { IsHeadOf P.planned self head }
         requires freed { (h : ℕ) → h < (P.planned self.plan).log.harts → Contains (head_view head).freed h }
         ensures { MatchResult result
-            (λ words. AreLastWords (course_of (P.planned self.plan)) words.items)
+            (λ words. AreLastWords (course P.planned self.plan) words.items)
             (λ refused. (refused.monitor ≡ self) × (refused.head ≡ head)) }
     {
         let Ok(mut words) = Vec::with_capacity(alloc, self.table.word_count()) else {

@@ -7,13 +7,13 @@ use order_core::Plan;
 pub struct CoreRule;
 
 impl<P: Plan> TableRule<(), View, P> for CoreRule {
-    ghost use Rattle.order_core.specs.Course.{course_of};
+    ghost use Rattle.order_core.specs.Course.{course};
     ghost use Rattle.guard_table.specs.Rule.{HoldsCore};
     ghost use Rattle.guard_table.specs.Views.{first_view};
 
-    ghost holds = { λ plan s. HoldsCore (course_of (P.planned plan)) s };
+    ghost holds = { λ plan s. HoldsCore (course P.planned plan) s };
 
-    ghost first = { λ plan. first_view (course_of (P.planned plan)) };
+    ghost first = { λ plan. first_view (course P.planned plan) };
 }
 
 // The head makes the seat of a hart.

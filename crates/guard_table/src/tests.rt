@@ -1,6 +1,6 @@
 //! Two harts at one table: what they see of each other, two lanes of one word in both orders, and two threads.
 ghost use Rattle.std.specs.Prelude.{◌≡◌, ◌≢◌, ◌<◌, [], IfOk};
-ghost use Rattle.order_core.specs.Course.{course_of, length_of};
+ghost use Rattle.order_core.specs.Course.{course, course_of, length_of};
 ghost use Rattle.order_core.specs.Lawful.{IsLawful};
 ghost use Rattle.guard_table.specs.Views.{first_view, fresh_view, wrote};
 ghost use Rattle.guard_table.specs.Seats.{head_view, seat_view, IsHeadOf, IsSeatOf, AreLastWords};
@@ -62,13 +62,13 @@ impl Plan for TwoLanes {
 
 // The seats of harts 0 and 1.
 fn both_seats<P: Plan>(monitor: &Monitor<P>, head: &mut Head) -> (GuardSeat, GuardSeat)
-    requires of { IsHeadOf monitor.now (course_of (P.planned monitor.now.plan)) head.old }
+    requires of { IsHeadOf P.planned monitor.now head.old }
     requires none { (head_view head.old).made ≡ [] }
     requires two { (P.planned monitor.now.plan).log.harts ≡ 2 }
-    ensures of { IsHeadOf monitor.now (course_of (P.planned monitor.now.plan)) head.new }
-    ensures first_of { IsSeatOf monitor.now (course_of (P.planned monitor.now.plan)) result.0 }
+    ensures of { IsHeadOf P.planned monitor.now head.new }
+    ensures first_of { IsSeatOf P.planned monitor.now result.0 }
     ensures first { seat_view result.0 ≡ fresh_view 0 (head_view head.old) }
-    ensures second_of { IsSeatOf monitor.now (course_of (P.planned monitor.now.plan)) result.1 }
+    ensures second_of { IsSeatOf P.planned monitor.now result.1 }
     ensures second { seat_view result.1 ≡ fresh_view 1 (head_view head.old) }
 {
     let first = monitor.seat(head, 0);
@@ -85,14 +85,14 @@ fn last_words<P: Plan + Drop>(
     second: GuardSeat,
 ) -> Result<Vec<u64>, NoMemory>
     requires two { (P.planned monitor.plan).log.harts ≡ 2 }
-    requires of { IsHeadOf monitor (course_of (P.planned monitor.plan)) head }
-    requires first_of { IsSeatOf monitor (course_of (P.planned monitor.plan)) first }
+    requires of { IsHeadOf P.planned monitor head }
+    requires first_of { IsSeatOf P.planned monitor first }
     requires first { (seat_view first).hart ≡ 0 }
-    requires first_ended { (seat_view first).progress ≡ length_of (course_of (P.planned monitor.plan)) 0 }
-    requires second_of { IsSeatOf monitor (course_of (P.planned monitor.plan)) second }
+    requires first_ended { (seat_view first).progress ≡ length_of (course P.planned monitor.plan) 0 }
+    requires second_of { IsSeatOf P.planned monitor second }
     requires second { (seat_view second).hart ≡ 1 }
-    requires second_ended { (seat_view second).progress ≡ length_of (course_of (P.planned monitor.plan)) 1 }
-    ensures { IfOk result (λ words. AreLastWords (course_of (P.planned monitor.plan)) words.items) }
+    requires second_ended { (seat_view second).progress ≡ length_of (course P.planned monitor.plan) 1 }
+    ensures { IfOk result (λ words. AreLastWords (course P.planned monitor.plan) words.items) }
 {
     monitor.give_back(&mut head, first);
     monitor.give_back(&mut head, second);
@@ -123,9 +123,9 @@ fn a_hart_sees_and_learns_what_another_has_advertised(rt: HostRuntime) -> Result
 
 // Hart 0 writes 7 where the lane holds 2.
 fn write_low(monitor: &Monitor<TwoLanes>, seat: &mut GuardSeat)
-    requires of { IsSeatOf monitor.now (course_of two_lanes) seat.old }
+    requires of { IsSeatOf (λ _. two_lanes) monitor.now seat.old }
     requires fresh { seat_view seat.old ≡ fresh_view 0 (first_view (course_of two_lanes)) }
-    ensures of { IsSeatOf monitor.now (course_of two_lanes) seat.new }
+    ensures of { IsSeatOf (λ _. two_lanes) monitor.now seat.new }
     ensures view { seat_view seat.new ≡ wrote (fresh_view 0 (first_view (course_of two_lanes))) }
 {
     monitor.write(seat, 1, 0, 9, Put::Flip { bits: 2 ^ 7 });
@@ -133,9 +133,9 @@ fn write_low(monitor: &Monitor<TwoLanes>, seat: &mut GuardSeat)
 
 // Hart 1 writes 3 where the lane holds 0.
 fn write_high(monitor: &Monitor<TwoLanes>, seat: &mut GuardSeat)
-    requires of { IsSeatOf monitor.now (course_of two_lanes) seat.old }
+    requires of { IsSeatOf (λ _. two_lanes) monitor.now seat.old }
     requires fresh { seat_view seat.old ≡ fresh_view 1 (first_view (course_of two_lanes)) }
-    ensures of { IsSeatOf monitor.now (course_of two_lanes) seat.new }
+    ensures of { IsSeatOf (λ _. two_lanes) monitor.now seat.new }
     ensures view { seat_view seat.new ≡ wrote (fresh_view 1 (first_view (course_of two_lanes))) }
 {
     monitor.write(seat, 1, 0, 9, Put::Flip { bits: 0x3_0000 });
@@ -148,13 +148,13 @@ fn write_both(
     high: &mut GuardSeat,
     is_low_first: bool,
 )
-    requires low_of { IsSeatOf monitor.now (course_of two_lanes) low.old }
+    requires low_of { IsSeatOf (λ _. two_lanes) monitor.now low.old }
     requires low { seat_view low.old ≡ fresh_view 0 (first_view (course_of two_lanes)) }
-    requires high_of { IsSeatOf monitor.now (course_of two_lanes) high.old }
+    requires high_of { IsSeatOf (λ _. two_lanes) monitor.now high.old }
     requires high { seat_view high.old ≡ fresh_view 1 (first_view (course_of two_lanes)) }
-    ensures low_of { IsSeatOf monitor.now (course_of two_lanes) low.new }
+    ensures low_of { IsSeatOf (λ _. two_lanes) monitor.now low.new }
     ensures low { seat_view low.new ≡ wrote (fresh_view 0 (first_view (course_of two_lanes))) }
-    ensures high_of { IsSeatOf monitor.now (course_of two_lanes) high.new }
+    ensures high_of { IsSeatOf (λ _. two_lanes) monitor.now high.new }
     ensures high { seat_view high.new ≡ wrote (fresh_view 1 (first_view (course_of two_lanes))) }
 {
     if is_low_first {
@@ -222,11 +222,11 @@ impl Plan for TwoWords {
 
 // A hart counts in its word, and looks at the other hart after each number.
 fn count(monitor: &Monitor<TwoWords>, mut seat: GuardSeat, other: u8) -> GuardSeat
-    requires of { IsSeatOf monitor.now (course_of (two_words monitor.now.plan.count)) seat }
+    requires of { IsSeatOf (λ plan. two_words plan.count) monitor.now seat }
     requires hart { (seat_view seat).hart < 2 }
     requires fresh { ((seat_view seat).written ≡ 0) × ((seat_view seat).progress ≡ 0) }
     requires other { (other < 2) × (other ≢ (seat_view seat).hart) }
-    ensures of { IsSeatOf monitor.now (course_of (two_words monitor.now.plan.count)) result }
+    ensures of { IsSeatOf (λ plan. two_words plan.count) monitor.now result }
     ensures hart { (seat_view result).hart ≡ (seat_view seat).hart }
     ensures ended { (seat_view result).progress ≡ 1 }
 {
@@ -251,17 +251,17 @@ fn counted<R: Threads + Sync>(rt: &R, alloc: Global, count_to: u32) -> Result<Ve
     let (first, second) = thread::join(
         rt,
         move || -> GuardSeat
-            requires of { IsSeatOf table.now (course_of (two_words table.now.plan.count)) first }
+            requires of { IsSeatOf (λ plan. two_words plan.count) table.now first }
             requires hart { (seat_view first).hart ≡ 0 }
             requires fresh { ((seat_view first).written ≡ 0) × ((seat_view first).progress ≡ 0) }
-            ensures of { IsSeatOf table.entry.now (course_of (two_words table.entry.now.plan.count)) result }
+            ensures of { IsSeatOf (λ plan. two_words plan.count) table.entry.now result }
             ensures ended { ((seat_view result).hart ≡ 0) × ((seat_view result).progress ≡ 1) }
         { count(table, first, 1) },
         move || -> GuardSeat
-            requires of { IsSeatOf table.now (course_of (two_words table.now.plan.count)) second }
+            requires of { IsSeatOf (λ plan. two_words plan.count) table.now second }
             requires hart { (seat_view second).hart ≡ 1 }
             requires fresh { ((seat_view second).written ≡ 0) × ((seat_view second).progress ≡ 0) }
-            ensures of { IsSeatOf table.entry.now (course_of (two_words table.entry.now.plan.count)) result }
+            ensures of { IsSeatOf (λ plan. two_words plan.count) table.entry.now result }
             ensures ended { ((seat_view result).hart ≡ 1) × ((seat_view result).progress ≡ 1) }
         { count(table, second, 0) },
     );

@@ -42,6 +42,10 @@ course_of plan = record {
   opening = plan.opening;
 }
 
+-- the course of a plan, by what such a plan says
+abbrev pub course : {P : Type 0} → (P → Planned) → P → Course
+course planned plan = course_of (planned plan)
+
 -- the operation at position p of the executed order
 abbrev pub At : Course → ℕ → Operation → Type 0
 At c p a = get_elem? c.operations p ≡ some a

@@ -1,5 +1,5 @@
 -- What a list of steps comes to.
-use Rattle.std.specs.Prelude.{◌≡◌, ℕ, ◌<◌, ◌≤◌, List, take, Some, slice_get}
+use Rattle.std.specs.Prelude.{◌≡◌, ℕ, ◌<◌, ◌≤◌, List, length, take, Some, slice_get}
 use Rattle.order_core.specs.declared.course.Course.{Course}
 use Rattle.order_core.specs.declared.course.Operation.{Operation}
 use Rattle.order_core.specs.declared.steps.Act.TheVariants.{Perform}
@@ -8,9 +8,10 @@ use Rattle.order_core.specs.declared.refused.CoreRefused.{CoreRefused}
 use Rattle.order_core.specs.declared.refused.CoreRefused.TheVariants.{NotAble, NoMemory}
 use Rattle.order_core.specs.declared.state.CoreState.{CoreState}
 use Rattle.order_core.specs.Lanes.{HasValueOf}
-use Rattle.order_core.specs.Core.{Core, IsCursor, IsOpen}
+use Rattle.order_core.specs.Core.{Core, IsCursor, IsOpen, IsConsistent, IsFinished}
 use Rattle.order_core.specs.Runs.{IsReached, IsAllowed}
-use Rattle.order_core.specs.States.{core_of, cursor_of}
+use Rattle.order_core.specs.States.{core_of, cursor_of, word_count}
+use Rattle.order_core.specs.Guarantees.{ReadsStayOpen, HasLastWords, HasMove, HasFewMoves}
 
 module _ (c : Course) where
   -- at each step that performs a read the word holds the value of the sequential run
@@ -36,3 +37,14 @@ module _ (c : Course) where
   pub record HasCursors (s : CoreState) : Type 0 where
     pub harts : (h : ℕ) → h < c.log.harts → IsCursor c ((core_of s).written h) ((core_of s).seen h) h (cursor_of s h)
     pub others : (h : ℕ) → c.log.harts ≤ h → cursor_of s h ≡ 0
+
+  -- the steps are allowed in turn, and this is the state after them, with what holds of each such state
+  pub record IsRunTo (steps : List CoreStep) (s : CoreState) : Type 0 where
+    pub reached : IsReached c steps (core_of s)
+    pub cursors : HasCursors s
+    pub words : word_count s ≡ length c.opening
+    pub consistent : IsConsistent c (core_of s)
+    pub late : ReadsStayOpen c (core_of s)
+    pub last : IsFinished c (core_of s) → HasLastWords c (core_of s)
+    pub moves : (IsFinished c (core_of s) → ⊥) → ∥ HasMove c (core_of s) ∥₁
+    pub bound : HasFewMoves c (core_of s)

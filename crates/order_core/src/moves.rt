@@ -3,7 +3,7 @@ ghost use Rattle.std.specs.Prelude.{◌≡◌, ℕ, ◌<◌, ◌≤◌, ◌↔�
 ghost use Rattle.order_core.specs.declared.course.Op.{Op};
 ghost use Rattle.order_core.specs.declared.course.Operation.{Operation};
 ghost use Rattle.order_core.specs.declared.steps.Act.TheVariants.{See, Advertise, Perform};
-ghost use Rattle.order_core.specs.Course.{course_of, At, IsListed};
+ghost use Rattle.order_core.specs.Course.{course, At, IsListed};
 ghost use Rattle.order_core.specs.Lawful.{IsName};
 ghost use Rattle.order_core.specs.inner.Places.{place_of, end_of, ClashesAround};
 ghost use Rattle.order_core.specs.States.{core_of};
@@ -20,10 +20,10 @@ use crate::steps::{Act, CoreStep};
 
 // A hart sees another.
 fn see<P: PlanOps>(plan: &P, state: &mut CoreState, hart: u8, of: u8) -> bool
-    requires fits { Fits (course_of (P.planned plan.now)) state.old }
-    ensures fits { result ≡ true → Fits (course_of (P.planned plan.now)) state.new }
-    ensures made { result ≡ true → IsMade (course_of (P.planned plan.now)) state.old hart (See of) state.new }
-    ensures refused { result ≡ false → MayMake (course_of (P.planned plan.now)) state.old hart (See of) → ⊥ }
+    requires fits { Fits (course P.planned plan.now) state.old }
+    ensures fits { result ≡ true → Fits (course P.planned plan.now) state.new }
+    ensures made { result ≡ true → IsMade (course P.planned plan.now) state.old hart (See of) state.new }
+    ensures refused { result ≡ false → MayMake (course P.planned plan.now) state.old hart (See of) → ⊥ }
 {
     if plan.harts() <= hart || plan.harts() <= of || hart == of {
         return false;
@@ -37,10 +37,10 @@ fn see<P: PlanOps>(plan: &P, state: &mut CoreState, hart: u8, of: u8) -> bool
 
 // A hart sets its progress word.
 fn advertise<P: PlanOps>(plan: &P, state: &mut CoreState, hart: u8, upto: u32) -> bool
-    requires fits { Fits (course_of (P.planned plan.now)) state.old }
-    ensures fits { result ≡ true → Fits (course_of (P.planned plan.now)) state.new }
-    ensures made { result ≡ true → IsMade (course_of (P.planned plan.now)) state.old hart (Advertise upto) state.new }
-    ensures refused { result ≡ false → MayMake (course_of (P.planned plan.now)) state.old hart (Advertise upto) → ⊥ }
+    requires fits { Fits (course P.planned plan.now) state.old }
+    ensures fits { result ≡ true → Fits (course P.planned plan.now) state.new }
+    ensures made { result ≡ true → IsMade (course P.planned plan.now) state.old hart (Advertise upto) state.new }
+    ensures refused { result ≡ false → MayMake (course P.planned plan.now) state.old hart (Advertise upto) → ⊥ }
 {
     if plan.harts() <= hart {
         return false;
@@ -63,7 +63,7 @@ fn advertise<P: PlanOps>(plan: &P, state: &mut CoreState, hart: u8, upto: u32) -
 
 // The operation of this name, where the run has one.
 fn named<P: PlanOps>(plan: &P, hart: u8, number: u32, op: u32) -> Option<Op>
-    ensures none { result ≡ None → (p : ℕ) (a : Operation) → At (course_of (P.planned plan.now)) p a →
+    ensures none { result ≡ None → (p : ℕ) (a : Operation) → At (course P.planned plan.now) p a →
         IsName hart number op a → ⊥ }
     ensures hart { IfSome result (λ o. hart < (P.planned plan.now).log.harts) }
     ensures some { IfSome result (λ o. IsListed (P.planned plan.now) hart number op o) }
@@ -76,16 +76,16 @@ fn named<P: PlanOps>(plan: &P, hart: u8, number: u32, op: u32) -> Option<Op>
 
 // A hart performs a write of its stream.
 fn write<P: PlanOps>(plan: &P, state: &mut CoreState, hart: u8, at: Place, op: Op) -> bool
-    requires fits { Fits (course_of (P.planned plan.now)) state.old }
+    requires fits { Fits (course P.planned plan.now) state.old }
     requires hart { hart < (P.planned plan.now).log.harts }
     requires op { IsListed (P.planned plan.now) hart at.number at.op op }
     requires is_write { op.write ≡ true }
     requires few { (core_of state.old).written hart < 4294967295 }
-    ensures fits { result ≡ true → Fits (course_of (P.planned plan.now)) state.new }
+    ensures fits { result ≡ true → Fits (course P.planned plan.now) state.new }
     ensures made { result ≡ true →
-        IsMade (course_of (P.planned plan.now)) state.old hart (Perform at.number at.op) state.new }
+        IsMade (course P.planned plan.now) state.old hart (Perform at.number at.op) state.new }
     ensures refused { result ≡ false →
-        MayMake (course_of (P.planned plan.now)) state.old hart (Perform at.number at.op) → ⊥ }
+        MayMake (course P.planned plan.now) state.old hart (Perform at.number at.op) → ⊥ }
 {
     let own = state.harts[hart as usize];
     if !at.is_same(own.next) {
@@ -117,11 +117,11 @@ fn write<P: PlanOps>(plan: &P, state: &mut CoreState, hart: u8, at: Place, op: O
 fn is_overtaken<P: PlanOps>(plan: &P, hart: u8, next: Place, at: Place, read: Op) -> bool
     requires hart { hart < (P.planned plan.now).log.harts }
     requires next_from { 1 ≤ next.number }
-    requires next { place_of next ≤ end_of (course_of (P.planned plan.now)) hart }
+    requires next { place_of next ≤ end_of (course P.planned plan.now) hart }
     requires from_one { 1 ≤ at.number }
-    requires within { place_of at ≤ end_of (course_of (P.planned plan.now)) hart }
+    requires within { place_of at ≤ end_of (course P.planned plan.now) hart }
     requires lanes { read.lanes ≤ 15 }
-    ensures { IsTrue result ↔ ClashesAround (course_of (P.planned plan.now)) hart read (place_of at) (place_of next) }
+    ensures { IsTrue result ↔ ClashesAround (course P.planned plan.now) hart read (place_of at) (place_of next) }
 {
     if at.is_earlier(next) {
         return has_clash(plan, hart, at, next, read);
@@ -131,15 +131,15 @@ fn is_overtaken<P: PlanOps>(plan: &P, hart: u8, next: Place, at: Place, read: Op
 
 // A hart performs a read of its stream.
 fn read<P: PlanOps>(plan: &P, state: &mut CoreState, hart: u8, at: Place, op: Op) -> bool
-    requires fits { Fits (course_of (P.planned plan.now)) state.old }
+    requires fits { Fits (course P.planned plan.now) state.old }
     requires hart { hart < (P.planned plan.now).log.harts }
     requires op { IsListed (P.planned plan.now) hart at.number at.op op }
     requires is_read { op.write ≡ false }
-    ensures fits { result ≡ true → Fits (course_of (P.planned plan.now)) state.new }
+    ensures fits { result ≡ true → Fits (course P.planned plan.now) state.new }
     ensures made { result ≡ true →
-        IsMade (course_of (P.planned plan.now)) state.old hart (Perform at.number at.op) state.new }
+        IsMade (course P.planned plan.now) state.old hart (Perform at.number at.op) state.new }
     ensures refused { result ≡ false →
-        MayMake (course_of (P.planned plan.now)) state.old hart (Perform at.number at.op) → ⊥ }
+        MayMake (course P.planned plan.now) state.old hart (Perform at.number at.op) → ⊥ }
 {
     let own = state.harts[hart as usize];
     if at.number <= own.progress {
@@ -155,12 +155,12 @@ fn read<P: PlanOps>(plan: &P, state: &mut CoreState, hart: u8, at: Place, op: Op
 
 // A hart performs an operation of its stream.
 fn perform<P: PlanOps>(plan: &P, state: &mut CoreState, hart: u8, number: u32, op: u32) -> bool
-    requires fits { Fits (course_of (P.planned plan.now)) state.old }
+    requires fits { Fits (course P.planned plan.now) state.old }
     requires few { (core_of state.old).written hart < 4294967295 }
-    ensures fits { result ≡ true → Fits (course_of (P.planned plan.now)) state.new }
+    ensures fits { result ≡ true → Fits (course P.planned plan.now) state.new }
     ensures made { result ≡ true →
-        IsMade (course_of (P.planned plan.now)) state.old hart (Perform number op) state.new }
-    ensures refused { result ≡ false → MayMake (course_of (P.planned plan.now)) state.old hart (Perform number op) → ⊥ }
+        IsMade (course P.planned plan.now) state.old hart (Perform number op) state.new }
+    ensures refused { result ≡ false → MayMake (course P.planned plan.now) state.old hart (Perform number op) → ⊥ }
 {
     let at = Place { number, op };
     match named(plan, hart, number, op) {
@@ -172,11 +172,11 @@ fn perform<P: PlanOps>(plan: &P, state: &mut CoreState, hart: u8, number: u32, o
 
 // Makes the step where it is allowed, and says whether it was.
 pub(crate) fn make<P: PlanOps>(plan: &P, state: &mut CoreState, step: CoreStep) -> bool
-    requires fits { Fits (course_of (P.planned plan.now)) state.old }
+    requires fits { Fits (course P.planned plan.now) state.old }
     requires few { (core_of state.old).written step.hart < 4294967295 }
-    ensures fits { result ≡ true → Fits (course_of (P.planned plan.now)) state.new }
-    ensures made { result ≡ true → IsMade (course_of (P.planned plan.now)) state.old step.hart step.act state.new }
-    ensures refused { result ≡ false → MayMake (course_of (P.planned plan.now)) state.old step.hart step.act → ⊥ }
+    ensures fits { result ≡ true → Fits (course P.planned plan.now) state.new }
+    ensures made { result ≡ true → IsMade (course P.planned plan.now) state.old step.hart step.act state.new }
+    ensures refused { result ≡ false → MayMake (course P.planned plan.now) state.old step.hart step.act → ⊥ }
 {
     match step.act {
         Act::See { of } => see(plan, state, step.hart, of),

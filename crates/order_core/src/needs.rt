@@ -1,6 +1,6 @@
 //! How many of a hart's first records have needs that it has seen.
 ghost use Rattle.std.specs.Prelude.{◌≡◌, ℕ, ◌+◌, ◌<◌, ◌≤◌, ◌↔◌, ◌⊎◌, IsTrue, Option, Some, None, length, max, slice_index, slice_index_or};
-ghost use Rattle.order_core.specs.Course.{course_of, length_of};
+ghost use Rattle.order_core.specs.Course.{course, length_of};
 ghost use Rattle.order_core.specs.Core.{IsMet};
 ghost use Rattle.order_core.specs.inner.Needs.{IsSeen, AreSeen};
 
@@ -39,13 +39,13 @@ pub(crate) fn met_up_to<P: PlanOps>(
     upto: u32,
 ) -> u32
     requires hart { hart < (P.planned plan.now).log.harts }
-    requires upto { upto ≤ length_of (course_of (P.planned plan.now)) hart }
-    requires from { from ≤ length_of (course_of (P.planned plan.now)) hart }
-    requires met { IsMet (course_of (P.planned plan.now)) (slice_index seen.now) hart from }
-    ensures met { IsMet (course_of (P.planned plan.now)) (slice_index seen.now) hart result }
-    ensures low { result ≤ length_of (course_of (P.planned plan.now)) hart }
+    requires upto { upto ≤ length_of (course P.planned plan.now) hart }
+    requires from { from ≤ length_of (course P.planned plan.now) hart }
+    requires met { IsMet (course P.planned plan.now) (slice_index seen.now) hart from }
+    ensures met { IsMet (course P.planned plan.now) (slice_index seen.now) hart result }
+    ensures low { result ≤ length_of (course P.planned plan.now) hart }
     ensures most { (m : ℕ) → m ≤ upto →
-        IsMet (course_of (P.planned plan.now)) (slice_index seen.now) hart m → m ≤ result }
+        IsMet (course P.planned plan.now) (slice_index seen.now) hart m → m ≤ result }
 {
     for number in from..upto {
         if !are_seen(plan.needs(hart, number + 1), seen) {

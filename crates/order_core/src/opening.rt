@@ -1,6 +1,6 @@
 //! The state at the start of a run.
 ghost use Rattle.std.specs.Prelude.{◌≡◌, ℕ, ◌<◌, IfOk};
-ghost use Rattle.order_core.specs.Course.{course_of};
+ghost use Rattle.order_core.specs.Course.{course};
 ghost use Rattle.order_core.specs.States.{hart_in};
 ghost use Rattle.order_core.specs.inner.Kept.{AreKept, IsFresh};
 
@@ -27,7 +27,7 @@ pub(crate) fn opening_words<P: PlanOps>(alloc: Global, plan: &P) -> Result<Vec<u
 
 // The harts at the start.
 pub(crate) fn opening_harts<P: PlanOps>(plan: &P) -> [HartState; 8]
-    ensures kept { AreKept (course_of (P.planned plan.now)) result }
+    ensures kept { AreKept (course P.planned plan.now) result }
     ensures fresh { (h : ℕ) → IsFresh (hart_in result h) }
 {
     let first = Place { number: 1, op: 0 };

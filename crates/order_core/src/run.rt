@@ -1,13 +1,11 @@
 //! Runs of steps over a plan.
 ghost use Rattle.std.specs.Prelude.{◌≡◌, ℕ, ◌+◌, ◌<◌, ◌≤◌, ◌^◌, ◌⊎◌, length, slice_index, IfOk, IfErr, MatchResult};
-ghost use Rattle.order_core.specs.Course.{course_of};
-ghost use Rattle.order_core.specs.Core.{opening_core, IsCursor, IsConsistent, IsFinished};
+ghost use Rattle.order_core.specs.Course.{course};
+ghost use Rattle.order_core.specs.Core.{opening_core, IsCursor};
 ghost use Rattle.order_core.specs.Runs.{IsReached};
-ghost use Rattle.order_core.specs.States.{hart_in, core_of, word_count};
+ghost use Rattle.order_core.specs.States.{hart_in, core_of};
 ghost use Rattle.order_core.specs.inner.Kept.{IsKept, AreKept, Fits};
-ghost use Rattle.order_core.specs.Outcomes.{IsFirstRefused, IsRefusal, HasCursors};
-ghost use Rattle.order_core.specs.Outcomes.{ReadsAreSequential};
-ghost use Rattle.order_core.specs.Guarantees.{ReadsStayOpen, HasLastWords, HasMove, HasFewMoves};
+ghost use Rattle.order_core.specs.Outcomes.{IsFirstRefused, IsRefusal, IsRunTo, ReadsAreSequential};
 ghost use Rattle.order_core.specs.declared.refused.CoreRefused.TheVariants.{NotAble, NoMemory};
 
 use crate::moves::make;
@@ -22,8 +20,8 @@ use std::alloc::Global;
 // The cursor of a hart.
 fn cursor_now<P: PlanOps>(plan: &P, hart: u8, own: HartState) -> u32
     requires hart { hart < (P.planned plan.now).log.harts }
-    requires kept { IsKept (course_of (P.planned plan.now)) hart own }
-    ensures { IsCursor (course_of (P.planned plan.now)) own.written (slice_index own.seen) hart result }
+    requires kept { IsKept (course P.planned plan.now) hart own }
+    ensures { IsCursor (course P.planned plan.now) own.written (slice_index own.seen) hart result }
 {
     let below = own.next.number - 1;
     below.min(met_up_to(plan, hart, &own.seen, own.met, below))
@@ -31,10 +29,10 @@ fn cursor_now<P: PlanOps>(plan: &P, hart: u8, own: HartState) -> u32
 
 // The cursors of the harts.
 fn cursors_now<P: PlanOps>(plan: &P, harts: &[HartState; 8]) -> [u32; 8]
-    requires { AreKept (course_of (P.planned plan.now)) harts.now }
+    requires { AreKept (course P.planned plan.now) harts.now }
     ensures others { (h : ℕ) → (P.planned plan.now).log.harts ≤ h → slice_index result h ≡ 0 }
     ensures harts { (h : ℕ) → h < (P.planned plan.now).log.harts → let own = hart_in harts.now h in
-        IsCursor (course_of (P.planned plan.now)) own.written (slice_index own.seen) h (slice_index result h) }
+        IsCursor (course P.planned plan.now) own.written (slice_index own.seen) h (slice_index result h) }
 {
     let mut cursors = [0; 8];
     for hart in 0..plan.harts() {
@@ -49,12 +47,12 @@ fn make_all<P: PlanOps>(
     state: &mut CoreState,
     steps: &[CoreStep],
 ) -> Result<(), FirstRefused>
-    requires fits { Fits (course_of (P.planned plan.now)) state.old }
-    requires opening { core_of state.old ≡ opening_core (course_of (P.planned plan.now)) }
+    requires fits { Fits (course P.planned plan.now) state.old }
+    requires opening { core_of state.old ≡ opening_core (course P.planned plan.now) }
     requires few { length steps.now < 2 ^ 32 }
-    ensures fits { IfOk result (λ _. Fits (course_of (P.planned plan.now)) state.new) }
-    ensures made { IfOk result (λ _. IsReached (course_of (P.planned plan.now)) steps.now (core_of state.new)) }
-    ensures refused { IfErr result (λ e. IsFirstRefused (course_of (P.planned plan.now)) steps.now e.at) }
+    ensures fits { IfOk result (λ _. Fits (course P.planned plan.now) state.new) }
+    ensures made { IfOk result (λ _. IsReached (course P.planned plan.now) steps.now (core_of state.new)) }
+    ensures refused { IfErr result (λ e. IsFirstRefused (course P.planned plan.now) steps.now e.at) }
 {
     for (at, step) in steps.iter().enumerate() {
         if !make(plan, state, *step) {
@@ -78,19 +76,10 @@ pub fn run_core<P: PlanOps>(
     steps: &[CoreStep],
 ) -> Result<CoreState, CoreRefused>
     requires { length steps.now < 2 ^ 32 }
-    ensures state { IfOk result (λ s. IsReached (course_of (P.planned plan.now)) steps.now (core_of s)) }
-    ensures cursors { IfOk result (λ s. HasCursors (course_of (P.planned plan.now)) s) }
-    ensures words { IfOk result (λ s. word_count s ≡ length (P.planned plan.now).opening) }
-    ensures consistent { IfOk result (λ s. IsConsistent (course_of (P.planned plan.now)) (core_of s)) }
-    ensures reads { ReadsAreSequential (course_of (P.planned plan.now)) steps.now }
-    ensures late { IfOk result (λ s. ReadsStayOpen (course_of (P.planned plan.now)) (core_of s)) }
-    ensures last { let c = course_of (P.planned plan.now) in
-        IfOk result (λ s. IsFinished c (core_of s) → HasLastWords c (core_of s)) }
-    ensures moves { let c = course_of (P.planned plan.now) in
-        IfOk result (λ s. (IsFinished c (core_of s) → ⊥) → ∥ HasMove c (core_of s) ∥₁) }
-    ensures bound { IfOk result (λ s. HasFewMoves (course_of (P.planned plan.now)) (core_of s)) }
-    ensures refused { IfErr result (λ e. IsRefusal (course_of (P.planned plan.now)) steps.now e) }
-    ensures exact { (at : ℕ) → IsFirstRefused (course_of (P.planned plan.now)) steps.now at →
+    ensures ran { IfOk result (IsRunTo (course P.planned plan.now) steps.now) }
+    ensures reads { ReadsAreSequential (course P.planned plan.now) steps.now }
+    ensures refused { IfErr result (IsRefusal (course P.planned plan.now) steps.now) }
+    ensures exact { (at : ℕ) → IsFirstRefused (course P.planned plan.now) steps.now at →
         MatchResult result (λ _. ⊥) (λ e. (e ≡ NotAble at) ⊎ (e ≡ NoMemory)) }
 {
     let mut state = CoreState {

@@ -1,6 +1,6 @@
 //! The next write of a hart, and the writes that clash with a read.
 ghost use Rattle.std.specs.Prelude.{◌≡◌, ℕ, ◌+◌, ◌<◌, ◌≤◌, ◌↔◌, true, false, IsTrue, MatchOption};
-ghost use Rattle.order_core.specs.Course.{course_of, length_of};
+ghost use Rattle.order_core.specs.Course.{course, length_of};
 ghost use Rattle.order_core.specs.Counts.{writes_before};
 ghost use Rattle.order_core.specs.inner.Places.{place_of, end_of, HasWriteAt, ClashesBetween};
 
@@ -42,12 +42,12 @@ fn next_place(at: Place, found: Option<Op>) -> Place
 pub(crate) fn seek<P: PlanOps>(plan: &P, hart: u8, from: Place) -> Place
     requires hart { hart < (P.planned plan.now).log.harts }
     requires from_one { 1 ≤ from.number }
-    requires within { place_of from ≤ end_of (course_of (P.planned plan.now)) hart }
+    requires within { place_of from ≤ end_of (course P.planned plan.now) hart }
     ensures from_one { 1 ≤ result.number }
-    ensures within { place_of result ≤ end_of (course_of (P.planned plan.now)) hart }
-    ensures count { let c = course_of (P.planned plan.now) in
+    ensures within { place_of result ≤ end_of (course P.planned plan.now) hart }
+    ensures count { let c = course P.planned plan.now in
         writes_before c hart result.number result.op ≡ writes_before c hart from.number from.op }
-    ensures there { let c = course_of (P.planned plan.now) in
+    ensures there { let c = course P.planned plan.now in
         result.number ≤ length_of c hart → HasWriteAt c hart result }
 {
     let len = plan.len(hart);
@@ -66,9 +66,9 @@ pub(crate) fn seek<P: PlanOps>(plan: &P, hart: u8, from: Place) -> Place
 pub(crate) fn has_clash<P: PlanOps>(plan: &P, hart: u8, from: Place, to: Place, read: Op) -> bool
     requires hart { hart < (P.planned plan.now).log.harts }
     requires from_one { 1 ≤ from.number }
-    requires within { place_of to ≤ end_of (course_of (P.planned plan.now)) hart }
+    requires within { place_of to ≤ end_of (course P.planned plan.now) hart }
     requires lanes { read.lanes ≤ 15 }
-    ensures { IsTrue result ↔ ClashesBetween (course_of (P.planned plan.now)) hart read (place_of from) (place_of to) }
+    ensures { IsTrue result ↔ ClashesBetween (course P.planned plan.now) hart read (place_of from) (place_of to) }
 {
     let mut at = from;
     while at.is_earlier(to) {

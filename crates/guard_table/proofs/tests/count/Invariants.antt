@@ -6,5 +6,5 @@ use Rattle.guard_table.proofs.tests.count.Given as goal
 
 abbrev pub invariant-loop-i : goal.invariant-loop-i
 invariant-loop-i l =
-    IsSeatOf l.monitor (course_of (two_words l.monitor.plan.count)) l.seat × ((seat_view l.seat).hart ≡ (seat_view l.initial.seat).hart)
+    IsSeatOf (λ plan. two_words plan.count) l.monitor l.seat × ((seat_view l.seat).hart ≡ (seat_view l.initial.seat).hart)
     × ((seat_view l.seat).written ≡ l.i) × ((seat_view l.seat).progress ≡ 0)

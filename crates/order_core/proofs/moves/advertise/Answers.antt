@@ -1,6 +1,6 @@
 use Rattle.std.proofs.Common.{◌≡◌, ◌<◌, ◌≤◌, refl, arith}
 use Rattle.order_core.specs.declared.course.Course.{Course}
-use Rattle.order_core.specs.Course.{course_of}
+use Rattle.order_core.specs.Course.{course}
 use Rattle.order_core.proofs.Known.{Known, known}
 use Rattle.order_core.specs.declared.state.HartState.{HartState}
 use Rattle.order_core.specs.States.{hart_in}
@@ -12,7 +12,7 @@ use Rattle.order_core.proofs.moves.advertise.Goals as goal
 pub bounds-state-hart : goal.bounds-state-hart
 bounds-state-hart g c =
     let plan = c.args.plan.now in
-    let k : Course = course_of (g.P.Plan.planned plan) in
+    let k : Course = course g.P.Plan.planned plan in
     let is : Known k = known k (g.met.P.Plan.lawful plan) in
     let harts : c.harts.result ≡ k.log.harts = c.harts.ensures in
     let low : c.args.hart < k.log.harts = omega arith in
@@ -22,7 +22,7 @@ bounds-state-hart g c =
 pub returns-then-upto-own-clause-refused : goal.returns-then-upto-own-clause-refused
 returns-then-upto-own-clause-refused g c _ may =
     let plan = c.args.plan.now in
-    let k : Course = course_of (g.P.Plan.planned plan) in
+    let k : Course = course g.P.Plan.planned plan in
     let is : Known k = known k (g.met.P.Plan.lawful plan) in
     let harts : c.harts.result ≡ k.log.harts = c.harts.ensures in
     let low : c.args.hart < k.log.harts = omega arith in
@@ -37,7 +37,7 @@ returns-then-upto-own-clause-refused g c _ may =
 pub met_up_to-met-requires-clause-met : goal.met_up_to-met-requires-clause-met
 met_up_to-met-requires-clause-met g c =
     let plan = c.args.plan.now in
-    let k : Course = course_of (g.P.Plan.planned plan) in
+    let k : Course = course g.P.Plan.planned plan in
     let is : Known k = known k (g.met.P.Plan.lawful plan) in
     let harts : c.harts.result ≡ k.log.harts = c.harts.ensures in
     let low : c.args.hart < k.log.harts = omega arith in
@@ -51,7 +51,7 @@ returns-then-met-upto-clause-refused g c _ may =
 pub returns-clause-fits : goal.returns-clause-fits
 returns-clause-fits g c _ =
     let plan = c.args.plan.now in
-    let k : Course = course_of (g.P.Plan.planned plan) in
+    let k : Course = course g.P.Plan.planned plan in
     let is : Known k = known k (g.met.P.Plan.lawful plan) in
     let harts : c.harts.result ≡ k.log.harts = c.harts.ensures in
     let low : c.args.hart < k.log.harts = omega arith in
@@ -62,7 +62,7 @@ returns-clause-fits g c _ =
 pub returns-clause-made : goal.returns-clause-made
 returns-clause-made g c _ =
     let plan = c.args.plan.now in
-    let k : Course = course_of (g.P.Plan.planned plan) in
+    let k : Course = course g.P.Plan.planned plan in
     let is : Known k = known k (g.met.P.Plan.lawful plan) in
     let harts : c.harts.result ≡ k.log.harts = c.harts.ensures in
     let low : c.args.hart < k.log.harts = omega arith in

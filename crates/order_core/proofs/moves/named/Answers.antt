@@ -1,6 +1,6 @@
 use Rattle.std.proofs.Common.{◌≡◌, ℕ, ◌<◌, ◌≤◌, sym, ◌∙◌, arith, subst}
 use Rattle.order_core.specs.declared.course.Course.{Course}
-use Rattle.order_core.specs.Course.{course_of, length_of}
+use Rattle.order_core.specs.Course.{course, length_of}
 use Rattle.order_core.specs.Lawful.{IsInside}
 use Rattle.order_core.proofs.Known.{Known, known}
 use Rattle.order_core.proofs.Named.{op_none}
@@ -10,7 +10,7 @@ use Rattle.order_core.proofs.moves.named.Goals as goal
 pub returns-then-harts-hart-clause-none : goal.returns-then-harts-hart-clause-none
 returns-then-harts-hart-clause-none g c _ p a at name =
     let plan = c.args.plan.now in
-    let k : Course = course_of (g.P.Plan.planned plan) in
+    let k : Course = course g.P.Plan.planned plan in
     let is : Known k = known k (g.met.P.Plan.lawful plan) in
     let inside : IsInside k a = is.inside p a at in
     let low : c.args.hart < k.log.harts = subst (λ (z : ℕ). z < k.log.harts) name.0 inside.hart in

@@ -1,7 +1,7 @@
 use Rattle.std.proofs.Common.{rules, ◌<◌, ◌≤◌, IsTrue, slice_index, refl, inl, inr, ⊎_elim, arith}
 use Rattle.order_core.specs.declared.course.Course.{Course}
 use Rattle.order_core.specs.declared.state.HartState.{HartState}
-use Rattle.order_core.specs.Course.{course_of}
+use Rattle.order_core.specs.Course.{course}
 use Rattle.order_core.specs.Core.{IsMet}
 use Rattle.order_core.specs.States.{hart_in}
 use Rattle.order_core.proofs.Known.{Known, known}
@@ -13,21 +13,21 @@ use Rattle.order_core.proofs.moves.read.Goals as goal
 pub returns-then-at-own-clause-refused : goal.returns-then-at-own-clause-refused
 returns-then-at-own-clause-refused g c _ =
     let plan = c.args.plan.now in
-    let k : Course = course_of (g.P.Plan.planned plan) in
+    let k : Course = course g.P.Plan.planned plan in
     let is : Known k = known k (g.met.P.Plan.lawful plan) in
     not_above (g.P.Plan.planned plan) is c.args.state.now c.requires.fits c.args.hart c.requires.hart c.args.at.number c.args.at.op c.args.op c.requires.op.from_one c.requires.op.number c.requires.op.op c.requires.is_read (omega arith)
 
 pub is_overtaken-requires-clause-lanes : goal.is_overtaken-requires-clause-lanes
 is_overtaken-requires-clause-lanes g c =
     let plan = c.args.plan.now in
-    let k : Course = course_of (g.P.Plan.planned plan) in
+    let k : Course = course g.P.Plan.planned plan in
     let is : Known k = known k (g.met.P.Plan.lawful plan) in
     lanes_low (g.P.Plan.planned plan) is c.args.state.now c.requires.fits c.args.hart c.requires.hart c.args.at.number c.args.at.op c.args.op c.requires.op.from_one c.requires.op.number c.requires.op.op
 
 pub returns-then-met-at-clause-refused : goal.returns-then-met-at-clause-refused
 returns-then-met-at-clause-refused g c _ =
     let plan = c.args.plan.now in
-    let k : Course = course_of (g.P.Plan.planned plan) in
+    let k : Course = course g.P.Plan.planned plan in
     let is : Known k = known k (g.met.P.Plan.lawful plan) in
     let own : HartState = hart_in c.args.state.now.harts c.args.hart in
     elim c.then-met-at.branch [
@@ -42,7 +42,7 @@ returns-then-met-at-clause-refused g c _ =
 pub returns-clause-fits : goal.returns-clause-fits
 returns-clause-fits g c _ =
     let plan = c.args.plan.now in
-    let k : Course = course_of (g.P.Plan.planned plan) in
+    let k : Course = course g.P.Plan.planned plan in
     let is : Known k = known k (g.met.P.Plan.lawful plan) in
     let own : HartState = hart_in c.args.state.now.harts c.args.hart in
     kept_fits (g.P.Plan.planned plan) is c.args.state.now c.requires.fits c.args.hart c.requires.hart (record own { met = c.met_up_to-met.result })
@@ -51,7 +51,7 @@ returns-clause-fits g c _ =
 pub returns-clause-made : goal.returns-clause-made
 returns-clause-made g c _ =
     let plan = c.args.plan.now in
-    let k : Course = course_of (g.P.Plan.planned plan) in
+    let k : Course = course g.P.Plan.planned plan in
     let is : Known k = known k (g.met.P.Plan.lawful plan) in
     let own : HartState = hart_in c.args.state.now.harts c.args.hart in
     let up : own.progress < c.args.at.number = omega arith in

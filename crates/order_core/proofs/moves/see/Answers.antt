@@ -1,6 +1,6 @@
 use Rattle.std.proofs.Common.{◌≡◌, ◌<◌, ◌≤◌, sym, arith}
 use Rattle.order_core.specs.declared.course.Course.{Course}
-use Rattle.order_core.specs.Course.{course_of}
+use Rattle.order_core.specs.Course.{course}
 use Rattle.order_core.proofs.Known.{Known, known}
 use Rattle.order_core.proofs.MoveLemmas.{see_fits, see_made}
 use Rattle.order_core.proofs.moves.see.Goals as goal
@@ -8,7 +8,7 @@ use Rattle.order_core.proofs.moves.see.Goals as goal
 pub bounds-state-of : goal.bounds-state-of
 bounds-state-of g c =
     let plan = c.args.plan.now in
-    let k : Course = course_of (g.P.Plan.planned plan) in
+    let k : Course = course g.P.Plan.planned plan in
     let is : Known k = known k (g.met.P.Plan.lawful plan) in
     let harts : c.harts.result ≡ k.log.harts = c.harts.ensures in
     let low : c.args.hart < k.log.harts = omega arith in
@@ -20,7 +20,7 @@ bounds-state-of g c =
 pub bounds-state-hart : goal.bounds-state-hart
 bounds-state-hart g c =
     let plan = c.args.plan.now in
-    let k : Course = course_of (g.P.Plan.planned plan) in
+    let k : Course = course g.P.Plan.planned plan in
     let is : Known k = known k (g.met.P.Plan.lawful plan) in
     let harts : c.harts.result ≡ k.log.harts = c.harts.ensures in
     let low : c.args.hart < k.log.harts = omega arith in
@@ -32,7 +32,7 @@ bounds-state-hart g c =
 pub bounds-own-of : goal.bounds-own-of
 bounds-own-of g c =
     let plan = c.args.plan.now in
-    let k : Course = course_of (g.P.Plan.planned plan) in
+    let k : Course = course g.P.Plan.planned plan in
     let is : Known k = known k (g.met.P.Plan.lawful plan) in
     let harts : c.harts.result ≡ k.log.harts = c.harts.ensures in
     let low : c.args.hart < k.log.harts = omega arith in
@@ -44,7 +44,7 @@ bounds-own-of g c =
 pub bounds-state-hart-2 : goal.bounds-state-hart-2
 bounds-state-hart-2 g c =
     let plan = c.args.plan.now in
-    let k : Course = course_of (g.P.Plan.planned plan) in
+    let k : Course = course g.P.Plan.planned plan in
     let is : Known k = known k (g.met.P.Plan.lawful plan) in
     let harts : c.harts.result ≡ k.log.harts = c.harts.ensures in
     let low : c.args.hart < k.log.harts = omega arith in
@@ -56,7 +56,7 @@ bounds-state-hart-2 g c =
 pub returns-clause-fits : goal.returns-clause-fits
 returns-clause-fits g c _ =
     let plan = c.args.plan.now in
-    let k : Course = course_of (g.P.Plan.planned plan) in
+    let k : Course = course g.P.Plan.planned plan in
     let is : Known k = known k (g.met.P.Plan.lawful plan) in
     let harts : c.harts.result ≡ k.log.harts = c.harts.ensures in
     let low : c.args.hart < k.log.harts = omega arith in
@@ -68,7 +68,7 @@ returns-clause-fits g c _ =
 pub returns-clause-made : goal.returns-clause-made
 returns-clause-made g c _ =
     let plan = c.args.plan.now in
-    let k : Course = course_of (g.P.Plan.planned plan) in
+    let k : Course = course g.P.Plan.planned plan in
     let is : Known k = known k (g.met.P.Plan.lawful plan) in
     let harts : c.harts.result ≡ k.log.harts = c.harts.ensures in
     let low : c.args.hart < k.log.harts = omega arith in

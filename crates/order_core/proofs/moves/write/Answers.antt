@@ -2,7 +2,7 @@ use Rattle.std.proofs.Common.{rules, ◌≡◌, ℕ, ◌+◌, ◌<◌, ◌≤◌
 use Rattle.std.proofs.lemmas.List.{get_or_default, length-set}
 use Rattle.order_core.specs.declared.course.Course.{Course}
 use Rattle.order_core.specs.declared.state.HartState.{HartState}
-use Rattle.order_core.specs.Course.{course_of, operation_of}
+use Rattle.order_core.specs.Course.{course, operation_of}
 use Rattle.order_core.specs.Core.{IsMet}
 use Rattle.order_core.specs.inner.Places.{place}
 use Rattle.order_core.specs.States.{hart_in}
@@ -17,7 +17,7 @@ use Rattle.order_core.proofs.moves.write.Goals as goal
 pub returns-then-not-is_same-clause-refused : goal.returns-then-not-is_same-clause-refused
 returns-then-not-is_same-clause-refused g c _ =
     let plan = c.args.plan.now in
-    let k : Course = course_of (g.P.Plan.planned plan) in
+    let k : Course = course g.P.Plan.planned plan in
     let is : Known k = known k (g.met.P.Plan.lawful plan) in
     let own : HartState = hart_in c.args.state.now.harts c.args.hart in
     let apart : place c.args.at.number c.args.at.op ≡ place own.next.number own.next.op → ⊥ = (λ e. let t : IsTrue c.is_same.result = c.is_same.ensures.1 e in let f = c.if-not-is_same.true in search rules) in
@@ -26,7 +26,7 @@ returns-then-not-is_same-clause-refused g c _ =
 pub returns-then-met-at-clause-refused : goal.returns-then-met-at-clause-refused
 returns-then-met-at-clause-refused g c _ =
     let plan = c.args.plan.now in
-    let k : Course = course_of (g.P.Plan.planned plan) in
+    let k : Course = course g.P.Plan.planned plan in
     let is : Known k = known k (g.met.P.Plan.lawful plan) in
     let own : HartState = hart_in c.args.state.now.harts c.args.hart in
     let missing : IsMet k (slice_index own.seen) c.args.hart c.args.at.number → ⊥ = (λ met. let most : c.args.at.number ≤ c.met_up_to-met.result = c.met_up_to-met.ensures.most c.args.at.number (omega arith) met in omega arith) in
@@ -35,7 +35,7 @@ returns-then-met-at-clause-refused g c _ =
 pub index-word-requires : goal.index-word-requires
 index-word-requires g c =
     let plan = c.args.plan.now in
-    let k : Course = course_of (g.P.Plan.planned plan) in
+    let k : Course = course g.P.Plan.planned plan in
     let is : Known k = known k (g.met.P.Plan.lawful plan) in
     let len : vec_len c.args.state.now.words ≡ length c.args.state.now.words.items = c.args.state.now.words.ok.0 in
     let low : c.args.op.word < length c.args.state.now.words.items = word_inside (g.P.Plan.planned plan) is c.args.state.now c.requires.fits c.args.hart c.requires.hart c.args.at.number c.args.at.op c.args.op c.requires.op.from_one c.requires.op.number c.requires.op.op in
@@ -44,7 +44,7 @@ index-word-requires g c =
 pub index_mut-requires : goal.index_mut-requires
 index_mut-requires g c =
     let plan = c.args.plan.now in
-    let k : Course = course_of (g.P.Plan.planned plan) in
+    let k : Course = course g.P.Plan.planned plan in
     let is : Known k = known k (g.met.P.Plan.lawful plan) in
     let len : vec_len c.args.state.now.words ≡ length c.args.state.now.words.items = c.args.state.now.words.ok.0 in
     let low : c.args.op.word < length c.args.state.now.words.items = word_inside (g.P.Plan.planned plan) is c.args.state.now c.requires.fits c.args.hart c.requires.hart c.args.at.number c.args.at.op c.args.op c.requires.op.from_one c.requires.op.number c.requires.op.op in
@@ -53,7 +53,7 @@ index_mut-requires g c =
 pub overflow_add-at : goal.overflow_add-at
 overflow_add-at g c =
     let plan = c.args.plan.now in
-    let k : Course = course_of (g.P.Plan.planned plan) in
+    let k : Course = course g.P.Plan.planned plan in
     let is : Known k = known k (g.met.P.Plan.lawful plan) in
     let low : c.args.at.op < 4294967295 = op_low (g.P.Plan.planned plan) is c.args.state.now c.requires.fits c.args.hart c.requires.hart c.args.at.number c.args.at.op c.args.op c.requires.op.from_one c.requires.op.number c.requires.op.op in
     search rules
@@ -61,7 +61,7 @@ overflow_add-at g c =
 pub returns-clause-fits : goal.returns-clause-fits
 returns-clause-fits g c _ =
     let plan = c.args.plan.now in
-    let k : Course = course_of (g.P.Plan.planned plan) in
+    let k : Course = course g.P.Plan.planned plan in
     let is : Known k = known k (g.met.P.Plan.lawful plan) in
     let own : HartState = hart_in c.args.state.now.harts c.args.hart in
     let same : place c.args.at.number c.args.at.op ≡ place own.next.number own.next.op = c.is_same.ensures.0 (let f = c.if-not-is_same.false in search rules) in
@@ -79,7 +79,7 @@ returns-clause-fits g c _ =
 pub returns-clause-made : goal.returns-clause-made
 returns-clause-made g c _ =
     let plan = c.args.plan.now in
-    let k : Course = course_of (g.P.Plan.planned plan) in
+    let k : Course = course g.P.Plan.planned plan in
     let is : Known k = known k (g.met.P.Plan.lawful plan) in
     let own : HartState = hart_in c.args.state.now.harts c.args.hart in
     let same : place c.args.at.number c.args.at.op ≡ place own.next.number own.next.op = c.is_same.ensures.0 (let f = c.if-not-is_same.false in search rules) in

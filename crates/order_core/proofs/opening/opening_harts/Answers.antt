@@ -4,7 +4,7 @@ use mathlib.Core.Logic.{dite}
 use native.Mathlib.Decide.{ℕ_discrete}
 use Rattle.order_core.specs.declared.course.Course.{Course}
 use Rattle.order_core.specs.declared.state.HartState.{HartState}
-use Rattle.order_core.specs.Course.{course_of}
+use Rattle.order_core.specs.Course.{course}
 use Rattle.order_core.specs.States.{hart_in, idle}
 use Rattle.order_core.specs.inner.Kept.{IsKept, IsFresh}
 use Rattle.order_core.proofs.Known.{Known, known}
@@ -14,7 +14,7 @@ use Rattle.order_core.proofs.opening.opening_harts.Goals as goal
 pub bounds-harts-hart : goal.bounds-harts-hart
 bounds-harts-hart g c =
     let plan = c.args.plan.now in
-    let k : Course = course_of (g.P.Plan.planned plan) in
+    let k : Course = course g.P.Plan.planned plan in
     let is : Known k = known k (g.met.P.Plan.lawful plan) in
     let end : c.harts-hart-end.result ≡ k.log.harts = c.harts-hart-end.ensures in
     let eight : k.log.harts ≤ 8 = is.harts in
@@ -23,7 +23,7 @@ bounds-harts-hart g c =
 pub loop-hart-preserved : goal.loop-hart-preserved
 loop-hart-preserved g c =
     let plan = c.args.plan.now in
-    let k : Course = course_of (g.P.Plan.planned plan) in
+    let k : Course = course g.P.Plan.planned plan in
     let is : Known k = known k (g.met.P.Plan.lawful plan) in
     let end : c.harts-hart-end.result ≡ k.log.harts = c.harts-hart-end.ensures in
     let eight : k.log.harts ≤ 8 = is.harts in

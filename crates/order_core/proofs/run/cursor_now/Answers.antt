@@ -1,6 +1,6 @@
 use Rattle.std.proofs.Common.{◌≡◌, ℕ, min, ◌+◌, ◌-◌, ◌≤◌, slice_index, sym, subst, arith}
 use Rattle.order_core.specs.declared.course.Course.{Course}
-use Rattle.order_core.specs.Course.{course_of}
+use Rattle.order_core.specs.Course.{course}
 use Rattle.order_core.specs.Core.{IsCursor}
 use Rattle.order_core.proofs.Known.{Known, known}
 use Rattle.order_core.proofs.HartLemmas.{cursor_is}
@@ -9,7 +9,7 @@ use Rattle.order_core.proofs.run.cursor_now.Goals as goal
 pub returns : goal.returns
 returns g c =
     let plan = c.args.plan.now in
-    let k : Course = course_of (g.P.Plan.planned plan) in
+    let k : Course = course g.P.Plan.planned plan in
     let is : Known k = known k (g.met.P.Plan.lawful plan) in
     let from : 1 ≤ c.args.own.next.number = c.requires.kept.from_one in
     let low : ℕ = c.args.own.next.number - 1 in

@@ -1,7 +1,7 @@
 use Rattle.std.proofs.Common.{rules, ◌≡◌, ℕ, suc, ◌+◌, ◌<◌, ◌≤◌, ◌^◌, List, length, take, get_or, Some, slice_get, subst, arith}
 use Rattle.std.proofs.lemmas.List.{take_all}
 use Rattle.order_core.specs.declared.course.Course.{Course}
-use Rattle.order_core.specs.Course.{course_of}
+use Rattle.order_core.specs.Course.{course}
 use Rattle.order_core.specs.States.{core_of}
 use Rattle.std.proofs.lemmas.List.{length-take-le}
 use Rattle.order_core.specs.declared.steps.Act.TheVariants.{See}
@@ -14,7 +14,7 @@ use Rattle.order_core.proofs.run.make_all.Goals as goal
 
 pub make-requires-clause-few : goal.make-requires-clause-few
 make-requires-clause-few g c =
-    let k : Course = course_of (g.P.Plan.planned c.args.plan.now) in
+    let k : Course = course g.P.Plan.planned c.args.plan.now in
     let s : CoreStep = get_or c.args.steps.now c.loop-at.at (record { hart = 0; act = See 0 }) in
     let few : (core_of c.loop-at.state).written s.hart ≤ (opening_core k).written s.hart + length (take c.loop-at.at c.args.steps.now) = few_writes k s.hart (opening_core k) (take c.loop-at.at c.args.steps.now) (core_of c.loop-at.state) c.loop-at.invariant.1 in
     let at : length (take c.loop-at.at c.args.steps.now) ≡ c.loop-at.at = length-take-le c.loop-at.at c.args.steps.now (omega arith) in
@@ -23,7 +23,7 @@ make-requires-clause-few g c =
 
 pub returns-then-not-make-clause-refused : goal.returns-then-not-make-clause-refused
 returns-then-not-make-clause-refused g c =
-    let k : Course = course_of (g.P.Plan.planned c.args.plan.now) in
+    let k : Course = course g.P.Plan.planned c.args.plan.now in
     let s : CoreStep = get_or c.args.steps.now c.loop-at.at (record { hart = 0; act = See 0 }) in
     let there : slice_get c.args.steps.now c.loop-at.at ≡ Some s = get_there c.args.steps.now c.loop-at.at (record { hart = 0; act = See 0 }) (omega arith) in
     let f = c.if-not-make.true in
@@ -32,7 +32,7 @@ returns-then-not-make-clause-refused g c =
 
 pub loop-at-preserved : goal.loop-at-preserved
 loop-at-preserved g c =
-    let k : Course = course_of (g.P.Plan.planned c.args.plan.now) in
+    let k : Course = course g.P.Plan.planned c.args.plan.now in
     let s : CoreStep = get_or c.args.steps.now c.loop-at.at (record { hart = 0; act = See 0 }) in
     let there : slice_get c.args.steps.now c.loop-at.at ≡ Some s = get_there c.args.steps.now c.loop-at.at (record { hart = 0; act = See 0 }) (omega arith) in
     let f = c.if-not-make.false in
@@ -42,5 +42,5 @@ loop-at-preserved g c =
 
 pub returns-clause-made : goal.returns-clause-made
 returns-clause-made g c =
-    let k : Course = course_of (g.P.Plan.planned c.args.plan.now) in
+    let k : Course = course g.P.Plan.planned c.args.plan.now in
     subst (λ (z : List CoreStep). IsReached k z (core_of c.loop-at.state)) (take_all c.loop-at.at c.args.steps.now c.loop-at-test.false) c.loop-at.invariant.1

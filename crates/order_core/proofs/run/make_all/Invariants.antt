@@ -1,5 +1,5 @@
 use Rattle.std.proofs.Common.{take}
-use Rattle.order_core.specs.Course.{course_of}
+use Rattle.order_core.specs.Course.{course}
 use Rattle.order_core.specs.Runs.{IsReached}
 use Rattle.order_core.specs.States.{core_of}
 use Rattle.order_core.specs.inner.Kept.{Fits}
@@ -7,5 +7,5 @@ use Rattle.order_core.proofs.run.make_all.Given as goal
 
 abbrev pub invariant-loop-at : goal.invariant-loop-at
 invariant-loop-at g l =
-    let c = course_of (g.P.Plan.planned l.plan) in
+    let c = course g.P.Plan.planned l.plan in
     Fits c l.state × IsReached c (take l.at l.steps) (core_of l.state)

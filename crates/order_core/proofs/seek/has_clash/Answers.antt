@@ -1,7 +1,7 @@
 use Rattle.std.proofs.Common.{rules, ◌+◌, ◌<◌, ◌≤◌, IsTrue, length, arith}
 use Rattle.pl_event.proofs.Places.{before_most}
 use Rattle.order_core.specs.declared.course.Course.{Course}
-use Rattle.order_core.specs.Course.{course_of, length_of}
+use Rattle.order_core.specs.Course.{course, length_of}
 use Rattle.order_core.specs.inner.Places.{place}
 use Rattle.order_core.proofs.Known.{Known, known}
 use Rattle.order_core.proofs.Walks.{op_short, further, clash_here, no_clash}
@@ -10,7 +10,7 @@ use Rattle.order_core.proofs.seek.has_clash.Goals as goal
 pub returns-then-is_clashing : goal.returns-then-is_clashing
 returns-then-is_clashing g c =
     let plan = c.args.plan.now in
-    let k : Course = course_of (g.P.Plan.planned plan) in
+    let k : Course = course g.P.Plan.planned plan in
     let is : Known k = known k (g.met.P.Plan.lawful plan) in
     let here : place c.loop-to.at.number c.loop-to.at.op < place c.args.to.number c.args.to.op = c.loop-to-test.ensures.0 (search rules) in
     let within : place c.args.to.number c.args.to.op ≤ place (length_of k c.args.hart + 1) 0 = c.requires.within in
@@ -24,7 +24,7 @@ pub next_place-at-requires-clause-number : goal.next_place-at-requires-clause-nu
 next_place-at-requires-clause-number g c =
     let plan = c.args.plan.now in
     let lines = ((g.P.Plan.planned plan).log).lines in
-    let k : Course = course_of (g.P.Plan.planned plan) in
+    let k : Course = course g.P.Plan.planned plan in
     let most : length_of k c.args.hart ≤ length lines = before_most lines c.args.hart (length lines) in
     let few : length lines < 4294967295 = (known k (g.met.P.Plan.lawful plan)).few in
     let here : place c.loop-to.at.number c.loop-to.at.op < place c.args.to.number c.args.to.op = c.loop-to-test.ensures.0 (search rules) in
@@ -34,7 +34,7 @@ next_place-at-requires-clause-number g c =
 pub next_place-at-requires-clause-op : goal.next_place-at-requires-clause-op
 next_place-at-requires-clause-op g c =
     let plan = c.args.plan.now in
-    let k : Course = course_of (g.P.Plan.planned plan) in
+    let k : Course = course g.P.Plan.planned plan in
     let is : Known k = known k (g.met.P.Plan.lawful plan) in
     let here : place c.loop-to.at.number c.loop-to.at.op < place c.args.to.number c.args.to.op = c.loop-to-test.ensures.0 (search rules) in
     let within : place c.args.to.number c.args.to.op ≤ place (length_of k c.args.hart + 1) 0 = c.requires.within in
@@ -43,7 +43,7 @@ next_place-at-requires-clause-op g c =
 pub loop-to-smaller : goal.loop-to-smaller
 loop-to-smaller g c =
     let plan = c.args.plan.now in
-    let k : Course = course_of (g.P.Plan.planned plan) in
+    let k : Course = course g.P.Plan.planned plan in
     let is : Known k = known k (g.met.P.Plan.lawful plan) in
     let here : place c.loop-to.at.number c.loop-to.at.op < place c.args.to.number c.args.to.op = c.loop-to-test.ensures.0 (search rules) in
     let within : place c.args.to.number c.args.to.op ≤ place (length_of k c.args.hart + 1) 0 = c.requires.within in
@@ -56,7 +56,7 @@ loop-to-smaller g c =
 pub loop-to-preserved : goal.loop-to-preserved
 loop-to-preserved g c =
     let plan = c.args.plan.now in
-    let k : Course = course_of (g.P.Plan.planned plan) in
+    let k : Course = course g.P.Plan.planned plan in
     let is : Known k = known k (g.met.P.Plan.lawful plan) in
     let here : place c.loop-to.at.number c.loop-to.at.op < place c.args.to.number c.args.to.op = c.loop-to-test.ensures.0 (search rules) in
     let within : place c.args.to.number c.args.to.op ≤ place (length_of k c.args.hart + 1) 0 = c.requires.within in

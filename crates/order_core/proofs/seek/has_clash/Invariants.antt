@@ -1,11 +1,11 @@
 use Rattle.std.proofs.Common.{◌-◌, ◌≤◌}
-use Rattle.order_core.specs.Course.{course_of}
+use Rattle.order_core.specs.Course.{course}
 use Rattle.order_core.specs.inner.Places.{place, ClashesBetween}
 use Rattle.order_core.proofs.seek.has_clash.Given as goal
 
 abbrev pub invariant-loop-to : goal.invariant-loop-to
 invariant-loop-to g l =
-    let c = course_of (g.P.Plan.planned l.plan) in
+    let c = course g.P.Plan.planned l.plan in
     (1 ≤ l.at.number) × (l.at.op ≤ 4294967295) × (place l.initial.at.number l.initial.at.op ≤ place l.at.number l.at.op)
     × (ClashesBetween c l.hart l.read (place l.initial.at.number l.initial.at.op) (place l.at.number l.at.op) → ⊥)
 

@@ -1,6 +1,6 @@
 use Rattle.std.proofs.Common.{arith, subst, sym}
 use Rattle.order_core.specs.declared.course.Course.{Course}
-use Rattle.order_core.specs.Course.{course_of}
+use Rattle.order_core.specs.Course.{course}
 use Rattle.order_core.specs.Core.{IsOpen}
 use Rattle.order_core.proofs.Known.{known}
 use Rattle.guard_table.specs.Seats.{seat_view}
@@ -12,12 +12,12 @@ pub load-requires : goal.load-requires
 load-requires g c =
     let plan = c.args.self.now.plan in
     let may = c.requires.may.2 in
-    let inside = (known (course_of (g.P.Plan.planned plan)) (g.met.P.Plan.lawful plan)).inside c.requires.may.0 c.requires.may.1 may.may.0 in
+    let inside = (known (course g.P.Plan.planned plan) (g.met.P.Plan.lawful plan)).inside c.requires.may.0 c.requires.may.1 may.may.0 in
     let high = inside.what.high in
     let on = may.on in
     let of = c.requires.of in
     let words = as_many _ _ _ _ of.0 of.1 c.args.seat.now.on_table.0 in
-    (of.0, omega arith, reads (course_of (g.P.Plan.planned c.args.self.now.table.shared.key)) _ _ c.args.word c.args.seat.now.seat.me c.args.seat.now.role)
+    (of.0, omega arith, reads (course g.P.Plan.planned c.args.self.now.table.shared.key) _ _ c.args.word c.args.seat.now.seat.me c.args.seat.now.role)
 
 pub returns-clause-value : goal.returns-clause-value
 returns-clause-value g c p a may =

@@ -3,7 +3,7 @@ use Rattle.std.proofs.lemmas.List.{take_all}
 use mathlib.Core.Option.{some, some-injective, some-ne-none}
 use lib.ListN.{get_elem?}
 use Rattle.order_core.specs.declared.course.Course.{Course}
-use Rattle.order_core.specs.Course.{course_of}
+use Rattle.order_core.specs.Course.{course}
 use Rattle.guard_table.specs.Seats.{AreLastWords}
 use Rattle.guard_table.proofs.PlayLemmas.{closes}
 use Rattle.guard_table.proofs.seats.Monitor.close.Goals as goal
@@ -23,10 +23,10 @@ loop-i-preserved g c =
 
 pub returns : goal.returns
 returns g c =
-    let k = course_of (g.P.Plan.planned c.args.self.plan) in
-    let key = ap (λ z. course_of (g.P.Plan.planned z)) c.args.self.key in
+    let k = course g.P.Plan.planned c.args.self.plan in
+    let key = ap (λ z. course g.P.Plan.planned z) c.args.self.key in
     let len = c.close_with-closed.result.words.ok.0 in
     let all = take_all c.loop-i.i c.close_with-closed.result.words.items (omega arith) in
-    let last : AreLastWords (course_of (g.P.Plan.planned c.args.self.table.shared.key)) c.close_with-closed.result.words.items =
-    closes (course_of (g.P.Plan.planned c.args.self.table.shared.key)) _ c.args.head.seat.me.0 _ _ c.args.head.role (λ h l. c.requires.freed h (subst (λ (z : Course). h < z.log.harts) key l)) c.close_with-closed.ensures.values.2 in
+    let last : AreLastWords (course g.P.Plan.planned c.args.self.table.shared.key) c.close_with-closed.result.words.items =
+    closes (course g.P.Plan.planned c.args.self.table.shared.key) _ c.args.head.seat.me.0 _ _ c.args.head.role (λ h l. c.requires.freed h (subst (λ (z : Course). h < z.log.harts) key l)) c.close_with-closed.ensures.values.2 in
     subst (AreLastWords k) (sym (c.loop-i.invariant.0 ∙ all)) (subst (λ (z : Course). AreLastWords z c.close_with-closed.result.words.items) key last)

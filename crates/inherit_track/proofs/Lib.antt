@@ -1,0 +1,3 @@
+pub mod RegisterLemmas
+pub mod ResolveLemmas
+pub mod OldestLemmas

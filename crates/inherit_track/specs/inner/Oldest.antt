@@ -1,0 +1,19 @@
+-- The least number of a source, found register by register.
+use Rattle.std.specs.Prelude.{◌≡◌, ℕ, ◌<◌, ◌≤◌, List, Option, Some, None, min}
+use Rattle.inherit_track.specs.declared.state.Held.{Held}
+use Rattle.inherit_track.specs.declared.state.RegState.{RegState}
+use Rattle.inherit_track.specs.declared.state.RegState.TheVariants as reg
+use Rattle.inherit_track.specs.States.{state_in}
+
+-- the lower one of the number and that of the state's source
+abbrev pub older_of : Option ℕ → RegState → Option ℕ
+older_of least (reg.Known mask) = least
+older_of None (reg.Held from) = Some from.number
+older_of (Some number) (reg.Held from) = Some (min number from.number)
+
+-- of the first n registers none is held, or this is the least number of a source
+abbrev pub IsOldestBelow : ℕ → List RegState → Option ℕ → Type 0
+IsOldestBelow n states None = (r : ℕ) (from : Held) → r < n → state_in states r ≡ reg.Held from → ⊥
+IsOldestBelow n states (Some number) =
+    ((r : ℕ) × (from : Held) × (r < n) × (state_in states r ≡ reg.Held from) × (from.number ≡ number))
+    × ((r : ℕ) (from : Held) → r < n → state_in states r ≡ reg.Held from → number ≤ from.number)

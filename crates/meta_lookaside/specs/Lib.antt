@@ -1,0 +1,2 @@
+pub mod LookAside
+pub mod Calls

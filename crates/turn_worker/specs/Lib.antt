@@ -1,0 +1,4 @@
+pub mod Workers
+pub mod Turns
+pub mod Results
+pub mod Crews

@@ -18,36 +18,16 @@ use Rattle.pl_event.specs.Records.{records_before, IsEvent}
 use Rattle.pl_event.specs.Unordered.{IsUnordered, IsOrderedPair}
 use Rattle.pl_event.proofs.Growth.{record_on, record_back, record_low, path_on, path_back, clock_on}
 use Rattle.pl_event.proofs.Places.{inside, before_up, before_own}
-use Rattle.log_clocks.specs.declared.clocks.Clocks.{Clocks}
-use Rattle.log_clocks.specs.declared.lasts.LastAccesses.{LastAccesses}
-use Rattle.log_clocks.specs.Clocks.{known, HasClocks}
-use Rattle.log_clocks.specs.LastAccesses.{last, HasLast}
+use Rattle.log_clocks.specs.Clocks.{HasClocks}
+use Rattle.log_clocks.specs.LastAccesses.{HasLast}
+use Rattle.log_clocks.proofs.Grown.{before_same, event_on, event_back, notice_on, tells_on, clocks_on, lasts_on}
 use Rattle.log_check.specs.declared.alerts.AlertWatch.{AlertWatch}
 use Rattle.log_check.specs.declared.order_check.OrderCheck.{OrderCheck}
 use Rattle.log_check.specs.Answers.{NamesFirst}
 use Rattle.log_check.specs.Checked.{GrowsTo, IsChecked}
 use Rattle.log_check.specs.inner.Watched.{IsWatched}
 
-before_same : (g e : List Line) (h i : ℕ) → i ≤ length g → records_before h (g ++ e) i ≡ records_before h g i
-before_same [] [] h i l = refl
-before_same [] (x ∷ e) h zero l = refl
-before_same [] (x ∷ e) h (suc i) l = absurd (omega arith)
-before_same (y ∷ g) e h zero l = refl
-before_same (y ∷ g) e h (suc i) l = ap (λ (z : ℕ). (if is_of h y then 1 else 0) + z) (before_same g e h i (omega arith))
-
 module _ (harts : ℕ) (g e : List Line) (flow : IsFlow harts (g ++ e)) where
-  event_on : (i n : ℕ) (a : Event) → IsEvent g i n a → IsEvent (g ++ e) i n a
-  event_on i n a x = (x.0, record_on g e i a.hart n x.0 x.1, x.2)
-
-  event_back : (i n : ℕ) (a : Event) → i < length g → IsEvent (g ++ e) i n a → IsEvent g i n a
-  event_back i n a low x = (x.0, record_back g e i a.hart n x.0 low x.1, x.2)
-
-  notice_on : (h m u n : ℕ) → IsNotice g h m u n → IsNotice (g ++ e) h m u n
-  notice_on h m u n a = (a.0, a.1, record_on g e a.0 h m a.1 a.2, a.3)
-
-  notice_back : (h m u n : ℕ) → m ≤ records_before h g (length g) → IsNotice (g ++ e) h m u n → IsNotice g h m u n
-  notice_back h m u n le a = (a.0, a.1, record_back g e a.0 h m a.1 (record_low g e a.0 h m a.1 le a.2) a.2, a.3)
-
   -- an event's number is one of the first lines
   numbered : (i n : ℕ) (a : Event) → IsEvent g i n a → n ≤ records_before a.hart g (length g)
   numbered i n a x =
@@ -71,7 +51,7 @@ module _ (harts : ℕ) (g e : List Line) (flow : IsFlow harts (g ++ e)) where
       (t.0, (notice.0, notice.1, record_back g e notice.0 h t.0 notice.1 low notice.2, notice.3))
 
   told_on : (h u n : ℕ) → HasNotice g h u n → HasNotice (g ++ e) h u n
-  told_on h u n t = (t.0, notice_on h t.0 u n t.1)
+  told_on h u n t = (t.0, notice_on g e h t.0 u n t.1)
 
   noticed_on : (a : Event) (n : ℕ) (b : Event) (m : ℕ) → IsNoticed g a n b m → IsNoticed (g ++ e) a n b m
   noticed_on a n b m = by (is_alert_kind a.kind)
@@ -88,10 +68,10 @@ module _ (harts : ℕ) (g e : List Line) (flow : IsFlow harts (g ++ e)) where
       by false t = told_back a.hart j m b y t
 
   pair_on : (i j : ℕ) (a : Event) (n : ℕ) (b : Event) (m : ℕ) → IsPair g i j a n b m → IsPair (g ++ e) i j a n b m
-  pair_on i j a n b m p = record { before = p.before; first = event_on i n a p.first; second = event_on j m b p.second; apart = p.apart }
+  pair_on i j a n b m p = record { before = p.before; first = event_on g e i n a p.first; second = event_on g e j m b p.second; apart = p.apart }
 
   pair_back : (i j : ℕ) (a : Event) (n : ℕ) (b : Event) (m : ℕ) → j < length g → IsPair (g ++ e) i j a n b m → IsPair g i j a n b m
-  pair_back i j a n b m low p = record { before = p.before; first = event_back i n a (let l : i < j = p.before in omega arith) p.first; second = event_back j m b low p.second; apart = p.apart }
+  pair_back i j a n b m low p = record { before = p.before; first = event_back g e i n a (let l : i < j = p.before in omega arith) p.first; second = event_back g e j m b low p.second; apart = p.apart }
 
   ordered_pair_on : (size i j : ℕ) (a : Event) (n : ℕ) (b : Event) (m : ℕ) → IsPair g i j a n b m → IsOrderedPair size g a n b m → IsOrderedPair size (g ++ e) a n b m
   ordered_pair_on size i j a n b m p o = record {
@@ -109,44 +89,10 @@ module _ (harts : ℕ) (g e : List Line) (flow : IsFlow harts (g ++ e)) where
     alerts = λ i j a n b m low pair meet. noticed_on a n b m (o.alerts i j a n b m low (pair_back i j a n b m (omega arith) pair) meet);
   }
 
-  tells_on : (s : Heads) → Tells s g (length g) → Tells s (g ++ e) (length g)
-  tells_on s t = record {
-    place = t.place ∙ ap (λ (z : List Line). length (events_of z)) (sym first);
-    events = λ h low. t.events h low ∙ ap (λ (z : List Line). events_on h (events_of z)) (sym first);
-    records = λ h low. t.records h low ∙ sym (same h);
-    told = λ h p is. subst (λ (z : ℕ). IsNotice (g ++ e) h z p.hart p.number) (sym (same h)) (notice_on h (records_before h g (length g)) p.hart p.number (t.told h p is));
-    all = λ h u n low note. t.all h u n low (notice_back h (records_before h g (length g)) u n (omega arith) (subst (λ (z : ℕ). IsNotice (g ++ e) h z u n) (same h) note));
-  }
-    where
-      first : take (length g) (g ++ e) ≡ take (length g) g
-      first = take-append-le (length g) g e (omega arith)
-
-      same : (h : ℕ) → records_before h (g ++ e) (length g) ≡ records_before h g (length g)
-      same h = before_same g e h (length g) (omega arith)
-
-  clocks_on : (clocks : Clocks) → HasClocks clocks g (length g) → HasClocks clocks (g ++ e) (length g)
-  clocks_on clocks has = record {
-    numbers = λ h low. has.numbers h low ∙ sym (same h);
-    right = λ h m le. (let s : records_before h (g ++ e) (length g) ≡ records_before h g (length g) = same h in let l : m ≤ records_before h g (length g) = omega arith in clock_on harts g e flow h m (known clocks h m) l (has.right h m l));
-    first = has.first;
-    within = has.within;
-  }
-    where
-      same : (h : ℕ) → records_before h (g ++ e) (length g) ≡ records_before h g (length g)
-      same h = before_same g e h (length g) (omega arith)
-
-  lasts_on : (lasts : LastAccesses) (size : ℕ) → HasLast lasts size g (length g) → HasLast lasts size (g ++ e) (length g)
-  lasts_on lasts size has = record {
-    sized = has.sized;
-    told = λ u block store least. (let a = has.told u block store least in (a.0, a.1, a.2, event_on a.0 (last lasts block store u) a.1 a.3, a.4, a.5));
-    every = λ u n block store a. has.every u n block store (a.0, a.1, a.2, event_back a.0 n a.1 a.2 a.3, a.4, a.5);
-    indexed = has.indexed;
-  }
-
   watched_on : (w : AlertWatch) → IsWatched w g (length g) → IsWatched w (g ++ e) (length g)
   watched_on w watched = record {
-    missed = λ h j n a low clear before is alert apart. told_on h a.hart n (watched.missed h j n a low clear before (event_back j n a before is) alert apart);
-    active = λ j n a low before is access. watched.active j n a low before (event_back j n a before is) access;
+    missed = λ h j n a low clear before is alert apart. told_on h a.hart n (watched.missed h j n a low clear before (event_back g e j n a before is) alert apart);
+    active = λ j n a low before is access. watched.active j n a low before (event_back g e j n a before is) access;
   }
 
 module _ (old new : Log) (grows : GrowsTo old new) where
@@ -159,9 +105,9 @@ checked_on check old new grows is =
     let e = grows.more in
     let f = flow_here old new grows in
     record {
-      tells = subst (λ (z : List Line). Tells check.heads z (length g)) (sym grows.lines) (tells_on new.harts g e f check.heads is.tells);
+      tells = subst (λ (z : List Line). Tells check.heads z (length g)) (sym grows.lines) (tells_on g e check.heads is.tells);
       clocks = subst (λ (z : List Line). HasClocks check.clocks z (length g)) (sym grows.lines) (clocks_on new.harts g e f check.clocks is.clocks);
-      lasts = subst (λ (z : ℕ × List Line). HasLast check.lasts z.0 z.1 (length g)) (λ d. (sym grows.block d, sym grows.lines d)) (lasts_on new.harts g e f check.lasts old.block is.lasts);
+      lasts = subst (λ (z : ℕ × List Line). HasLast check.lasts z.0 z.1 (length g)) (λ d. (sym grows.block d, sym grows.lines d)) (lasts_on g e check.lasts old.block is.lasts);
       alerts = subst (λ (z : List Line). IsWatched check.alerts z (length g)) (sym grows.lines) (watched_on new.harts g e f check.alerts is.alerts);
       ordered = subst (λ (z : ℕ × List Line). AreOrdered z.0 z.1 (length g)) (λ d. (sym grows.block d, sym grows.lines d)) (ordered_on new.harts g e f old.block (length g) (omega arith) is.ordered);
     }

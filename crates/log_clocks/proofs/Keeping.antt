@@ -1,6 +1,9 @@
 -- One record more: its clock is kept, and those of the records before it stay.
 use Rattle.std.proofs.Common.{◌≡◌, ℕ, zero, suc, ◌+◌, ◌<◌, ◌≤◌, Bool, eqb, List, [], ◌∷◌, ◌++◌, length, get_or, refl, sym, ap, ◌∙◌, subst, arith, lt_of_not-le, eq-eqb, ne_eqb, length-append, if◌then◌else◌}
 use Rattle.std.proofs.lemmas.List.{get_or_append_left, get_or_past}
+use Rattle.std.specs.declared.result.Result.{Result}
+use Rattle.std.specs.declared.result.Result.TheVariants.{Ok, Err}
+use Rattle.std.specs.Prelude.{OnErr, take}
 use lib.Seq.{get_or-append_seam}
 use mathlib.Core.Logic.{dite}
 use native.Mathlib.Decide.{ℕ_discrete, dec_le}
@@ -14,6 +17,20 @@ use Rattle.log_clocks.specs.declared.clock.Clock.{Clock}
 use Rattle.log_clocks.specs.declared.clocks.Clocks.{Clocks}
 use Rattle.log_clocks.specs.Clocks.{time, slots, slot_in, slot_of, clock_at, kept_at, known_in, known, HasClocks}
 use Rattle.log_clocks.proofs.RecordClocks.{same_clock, clock_start}
+
+-- what stays whatever is answered stays without memory
+pub kept_anyway : {T E : Type 0} (r : Result T E) (P : Type 0) → P → OnErr r P
+kept_anyway (Ok x) P p = tt
+kept_anyway (Err x) P p = p
+
+-- the clocks that were kept before
+pub front_again : (xs ys : List Clock) → take (length xs) (xs ++ ys) ≡ xs
+front_again [] ys = refl
+front_again (x ∷ xs) ys = ap (λ (z : List Clock). x ∷ z) (front_again xs ys)
+
+pub whole_again : (xs : List Clock) → take (length xs) xs ≡ xs
+whole_again [] = refl
+whole_again (x ∷ xs) = ap (λ (z : List Clock). x ∷ z) (whole_again xs)
 
 slot_old : (xs : List ℕ) (slot m : ℕ) → m ≤ length xs → slot_in (xs ++ slot ∷ []) m ≡ slot_in xs m
 slot_old xs slot zero l = refl

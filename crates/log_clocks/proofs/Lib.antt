@@ -4,3 +4,4 @@ pub mod RecordClocks
 pub mod Keeping
 pub mod RowLists
 pub mod Accesses
+pub mod Grown

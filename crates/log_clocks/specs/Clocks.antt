@@ -47,3 +47,8 @@ pub record HasClocks (clocks : Clocks) (lines : List Line) (i : ℕ) : Type 0 wh
   pub right : (h m : ℕ) → m ≤ records_before h lines i → IsClock (Into lines) h m (known clocks h m)
   pub first : (u : ℕ) → time (kept_at clocks 0) u ≡ 0
   pub within : (h m : ℕ) → slot_of clocks h m < length clocks.kept.items
+
+-- both have the same records with the same clocks
+pub record HasSameClocks (old new : Clocks) : Type 0 where
+  pub records : (h : ℕ) → slots new h ≡ slots old h
+  pub kept : new.kept.items ≡ old.kept.items

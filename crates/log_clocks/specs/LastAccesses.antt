@@ -1,7 +1,8 @@
 -- What a table of last accesses tells.
-use Rattle.std.specs.Prelude.{◌≡◌, ℕ, ◌<◌, ◌≤◌, Bool, List, Some}
+use Rattle.std.specs.Prelude.{◌≡◌, ℕ, ◌<◌, ◌≤◌, Bool, List, Some, None}
 use Rattle.pl_event.specs.declared.event.Event.{Event}
 use Rattle.pl_event.specs.declared.log.Line.{Line}
+use Rattle.pl_event.specs.declared.log.Record.TheVariants as entry
 use Rattle.pl_event.specs.Candidates.{Shares}
 use Rattle.pl_event.specs.Conflicts.{access_of}
 use Rattle.pl_event.specs.Records.{IsEvent}
@@ -31,3 +32,13 @@ pub record HasLast (lasts : LastAccesses) (size : ℕ) (lines : List Line) (i : 
 -- the clock knows each record of another hart that comes before the event, record m of its hart, and shares its block
 abbrev pub KnowsShared : ℕ → List Line → Event → ℕ → Clock → Type 0
 KnowsShared size lines event m clock = (u k : ℕ) → u < 8 → Shares size lines u k event.hart m → k ≤ time clock u
+
+-- both have the same last accesses
+pub record HasSameTable (old new : LastAccesses) : Type 0 where
+  pub size : new.size ≡ old.size
+  pub index : new.index.items ≡ old.index.items
+  pub rows : new.rows.items ≡ old.rows.items
+
+-- the line neither loads nor stores
+abbrev pub IsNoAccess : ℕ → Line → Type 0
+IsNoAccess size line = (event : Event) → line.what ≡ entry.Event event → access_of size event.kind ≡ None

@@ -1,5 +1,5 @@
 //! The clocks of all records so far.
-ghost use Rattle.std.specs.Prelude.{◌≡◌, ℕ, suc, ◌+◌, ◌^◌, ◌<◌, ◌≤◌, [], ◌∷◌, ◌++◌, List, length, false, IfOk, slice_index, slice_index_or};
+ghost use Rattle.std.specs.Prelude.{◌≡◌, ℕ, suc, ◌+◌, ◌^◌, ◌<◌, ◌≤◌, [], ◌∷◌, ◌++◌, List, length, take, false, IfOk, OnErr, OnOk, slice_index, slice_index_or};
 ghost use Rattle.pl_event.specs.declared.log.Line.{Line};
 ghost use Rattle.pl_event.specs.Edges.{IsFlow, Into};
 ghost use Rattle.pl_event.specs.Graph.{IsClock};
@@ -22,7 +22,7 @@ pub struct Clocks {
 }
 
 impl Clocks {
-    ghost use Rattle.log_clocks.specs.Clocks.{time, slots, kept_at, slot_of, known, HasClocks};
+    ghost use Rattle.log_clocks.specs.Clocks.{time, slots, kept_at, slot_of, known, HasClocks, HasSameClocks};
     ghost use Rattle.log_clocks.specs.inner.Joins.{IsJoin};
 
     /// Of no record.
@@ -39,8 +39,8 @@ impl Clocks {
         Ok(Clocks { slots, kept })
     }
 
-    // How many records a hart has so far.
-    fn count(&self, hart: u8) -> usize
+    /// How many records a hart below 8 has so far.
+    pub fn count(&self, hart: u8) -> usize
         requires { hart < 8 }
         ensures { result ≡ length (slots self.now hart) }
     {
@@ -102,9 +102,17 @@ impl Clocks {
         (joined, is_raised)
     }
 
+    // How many clocks are kept.
+    fn clocks(&self) -> usize
+        ensures { result ≡ length self.now.kept.items }
+    {
+        self.kept.len()
+    }
+
     // Keeps a clock, and tells where.
     fn keep(&mut self, clock: Clock) -> Result<u32, NoMemory>
         ensures slots { self.new.slots ≡ self.old.slots }
+        ensures err { OnErr result (self.new.kept.items ≡ self.old.kept.items) }
         ensures kept { IfOk result (λ slot. (slot ≡ length self.old.kept.items)
             × (self.new.kept.items ≡ self.old.kept.items ++ clock ∷ [])) }
     {
@@ -117,33 +125,68 @@ impl Clocks {
     }
 
     // One more record of a hart.
-    fn add(&mut self, hart: u8, slot: u32) -> Result<(), NoMemory>
+    fn push(&mut self, hart: u8, slot: u32) -> Result<(), NoMemory>
         requires { hart < 8 }
         ensures kept { self.new.kept ≡ self.old.kept }
         ensures added { IfOk result (λ _. slots self.new hart ≡ slots self.old hart ++ slot ∷ []) }
+        ensures err { OnErr result (slots self.new hart ≡ slots self.old hart) }
         ensures others { (u : ℕ) → (u ≡ hart → ⊥) → slots self.new u ≡ slots self.old u }
     {
         self.slots[hart as usize].push(slot)?;
         Ok(())
     }
 
+    // The same. Without memory only the first `count` clocks are kept.
+    fn add(&mut self, hart: u8, slot: u32, count: usize) -> Result<(), NoMemory>
+        requires { hart < 8 }
+        ensures kept { OnOk result (self.new.kept ≡ self.old.kept) }
+        ensures added { OnOk result (slots self.new hart ≡ slots self.old hart ++ slot ∷ []) }
+        ensures others { OnOk result ((u : ℕ) → (u ≡ hart → ⊥) → slots self.new u ≡ slots self.old u) }
+        ensures err { OnErr result ((self.new.kept.items ≡ take count self.old.kept.items)
+            × ((u : ℕ) → slots self.new u ≡ slots self.old u)) }
+    {
+        if let Err(NoMemory) = self.push(hart, slot) {
+            self.kept.truncate(count);
+            return Err(NoMemory);
+        }
+        Ok(())
+    }
+
+    /// The clock of the next record, of this hart, which needs these records of other harts.
+    pub fn next_clock(&self, hart: u8, needs: &Arcs) -> Clock
+        requires hart { hart < 8 }
+        requires few { length (slots self.now hart) + 1 < 2 ^ 32 }
+        ensures { (harts : ℕ) (lines : List Line) (i : ℕ) (line : Line) →
+            IsFlow harts lines → harts ≤ 8 → HasClocks self.now lines i → IsNext lines i hart line →
+            needs.now ≡ needs_of lines hart (records_before hart lines i + 1) →
+            IsClock (Into lines) hart (records_before hart lines i + 1) (time result) }
+    {
+        let number = self.count(hart) as u32;
+        let last = self.slot(hart, number);
+        let (mut clock, _) = self.joined(self.clock_in(last), needs);
+        clock.set(hart, number + 1);
+        clock
+    }
+
     /// Takes the next record, of this hart, which needs these records of other harts, and gives its clock. Without
-    /// memory nothing is said of the clocks from then on.
+    /// memory the clocks stay as they were.
     pub fn next(&mut self, hart: u8, needs: &Arcs) -> Result<Clock, NoMemory>
         requires hart { hart < 8 }
         requires few { length (slots self.old hart) + 1 < 2 ^ 32 }
-        ensures { (harts : ℕ) (lines : List Line) (i : ℕ) (line : Line) →
+        ensures ok { (harts : ℕ) (lines : List Line) (i : ℕ) (line : Line) →
             IsFlow harts lines → harts ≤ 8 → HasClocks self.old lines i → IsNext lines i hart line →
             needs.now ≡ needs_of lines hart (records_before hart lines i + 1) →
             IfOk result (λ clock. IsClock (Into lines) hart (records_before hart lines i + 1) (time clock)
             × HasClocks self.new lines (i + 1) × (time clock hart ≡ records_before hart lines i + 1)) }
+        ensures err { OnErr result (HasSameClocks self.old self.new) }
     {
         let number = self.count(hart) as u32;
         let last = self.slot(hart, number);
+        let count = self.clocks();
         let (mut clock, is_raised) = self.joined(self.clock_in(last), needs);
         clock.set(hart, number + 1);
         let slot = if is_raised { self.keep(clock)? } else { last };
-        self.add(hart, slot)?;
+        self.add(hart, slot, count)?;
         Ok(clock)
     }
 }

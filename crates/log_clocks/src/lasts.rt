@@ -1,5 +1,5 @@
 //! The last load and the last store of each hart in each block.
-ghost use Rattle.std.specs.Prelude.{◌≡◌, ℕ, ◌+◌, ◌/◌, ◌<◌, ◌≤◌, List, length, Bool, IfOk, IsTrue, None, false, slice_index, slice_index_or, slice_set};
+ghost use Rattle.std.specs.Prelude.{◌≡◌, ℕ, ◌+◌, ◌/◌, ◌<◌, ◌≤◌, List, length, Bool, IfOk, OnErr, IsTrue, None, false, slice_index, slice_index_or, slice_set};
 ghost use Rattle.pl_base.specs.declared.layout.TheConstants.{MEMORY_BYTES};
 ghost use Rattle.pl_event.specs.declared.log.Line.{Line};
 ghost use Rattle.pl_event.specs.Candidates.{Shares};
@@ -112,7 +112,7 @@ pub struct LastAccesses {
 }
 
 impl LastAccesses {
-    ghost use Rattle.log_clocks.specs.LastAccesses.{last, HasLast, KnowsShared};
+    ghost use Rattle.log_clocks.specs.LastAccesses.{last, HasLast, HasSameTable, KnowsShared};
 
     /// Of no line, for blocks of 16 or 4 bytes.
     pub fn new(alloc: Global, size: u8) -> Result<LastAccesses, NoMemory>
@@ -173,6 +173,7 @@ impl LastAccesses {
             IsIndexed self.new.index.items self.new.rows.items × (slice_index self.new.index.items block ≡ slot)
             × (1 ≤ slot)
             × ((b : ℕ) → row_at self.new.index.items self.new.rows.items b ≡ row_at self.old.index.items self.old.rows.items b)) }
+        ensures err { OnErr result (HasSameTable self.old self.new) }
     {
         let slot = self.slot(block);
         let count = self.count();
@@ -195,6 +196,7 @@ impl LastAccesses {
             IsIndexed self.new.index.items self.new.rows.items × (last self.new block store hart ≡ number)
             × ((b : ℕ) (s : Bool) (u : ℕ) → ((b ≡ block) × (s ≡ store) × (u ≡ hart) → ⊥) →
             last self.new b s u ≡ last self.old b s u)) }
+        ensures err { OnErr result (HasSameTable self.old self.new) }
     {
         let slot = self.own_row(block)?;
         self.rows[slot].set(store, hart, number);
@@ -211,13 +213,13 @@ impl LastAccesses {
         addr / u32::from(self.size)
     }
 
-    /// Takes the next line, which is record `number` of its hart. Without memory nothing is said of the table from then
-    /// on.
+    /// Takes the next line, which is record `number` of its hart. Without memory the table stays as it was.
     pub fn pass(&mut self, line: &Line, number: u32) -> Result<(), NoMemory>
         requires { IsSoundLine 8 line.now }
-        ensures { (size : ℕ) (lines : List Line) (i : ℕ) → HasLast self.old size lines i →
+        ensures ok { (size : ℕ) (lines : List Line) (i : ℕ) → HasLast self.old size lines i →
             IsRecord lines i (hart_of line.now.what) number line.now →
             IfOk result (λ _. HasLast self.new size lines (i + 1)) }
+        ensures err { OnErr result (HasSameTable self.old self.new) }
     {
         match line.what {
             Record::Event(event) => self.take(&event, number),
@@ -227,8 +229,9 @@ impl LastAccesses {
 
     fn take(&mut self, event: &Event, number: u32) -> Result<(), NoMemory>
         requires { IsValidEvent event.now 8 }
-        ensures { (size : ℕ) (lines : List Line) (i : ℕ) → HasLast self.old size lines i →
+        ensures ok { (size : ℕ) (lines : List Line) (i : ℕ) → HasLast self.old size lines i →
             IsEvent lines i number event.now → IfOk result (λ _. HasLast self.new size lines (i + 1)) }
+        ensures err { OnErr result (HasSameTable self.old self.new) }
     {
         match event.kind {
             Kind::Ld {

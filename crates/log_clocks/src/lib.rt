@@ -9,10 +9,12 @@
 
 mod clock;
 mod clocks;
+mod growth;
 mod lasts;
 #[cfg(test)]
 mod tests;
 
 pub use clock::Clock;
 pub use clocks::Clocks;
+pub use growth::grown_tables;
 pub use lasts::LastAccesses;

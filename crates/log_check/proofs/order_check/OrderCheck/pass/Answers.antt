@@ -34,14 +34,14 @@ earlier-requires-clause-line c = line_next c.args.log.now.lines c.args.at (hart_
 
 pub earlier-requires-clause-clock : goal.earlier-requires-clause-clock
 earlier-requires-clause-clock c = subst (λ (z : ℕ). IsClock (Into c.args.log.now.lines) z (records_before z c.args.log.now.lines c.args.at + 1) (time c.in_ok-clock.clock)) c.record_hart-hart.ensures
-    (c.in_ok-clock.ensures c.args.log.now.harts c.args.log.now.lines c.args.at c.args.line.now c.requires.log.flow c.requires.log.few c.requires.checked.clocks (line_next c.args.log.now.lines c.args.at c.record_hart-hart.result c.args.line.now c.requires.line c.record_hart-hart.ensures) (c.needs-needs.ensures c.args.log.now.harts c.args.log.now.lines c.args.at c.requires.log.flow c.requires.checked.tells (line_next c.args.log.now.lines c.args.at c.record_hart-hart.result c.args.line.now c.requires.line c.record_hart-hart.ensures))).0
+    (c.in_ok-clock.ensures.ok c.args.log.now.harts c.args.log.now.lines c.args.at c.args.line.now c.requires.log.flow c.requires.log.few c.requires.checked.clocks (line_next c.args.log.now.lines c.args.at c.record_hart-hart.result c.args.line.now c.requires.line c.record_hart-hart.ensures) (c.needs-needs.ensures c.args.log.now.harts c.args.log.now.lines c.args.at c.requires.log.flow c.requires.checked.tells (line_next c.args.log.now.lines c.args.at c.record_hart-hart.result c.args.line.now c.requires.line c.record_hart-hart.ensures))).0
 
 pub returns-in-Some : goal.returns-in-Some
 returns-in-Some c =
     let p = c.in-Some.ensures in
     let hart : p.b.hart ≡ c.record_hart-hart.result = event_hart c.args.log.now.lines c.args.at p.m p.b c.args.line.now p.pair.second c.requires.line ∙ sym c.record_hart-hart.ensures in
     names_first c.args.log.now c.args.at c.in-Some.earlier (record { hart = c.record_hart-hart.result; number = c.get-number.result }) c.requires.checked.ordered p p.m p.b p.pair.second hart
-    (sym p.pair.second.1.number ∙ (ap (λ (z : ℕ). records_before z c.args.log.now.lines c.args.at + 1) hart ∙ (sym (c.in_ok-clock.ensures c.args.log.now.harts c.args.log.now.lines c.args.at c.args.line.now c.requires.log.flow c.requires.log.few c.requires.checked.clocks (line_next c.args.log.now.lines c.args.at c.record_hart-hart.result c.args.line.now c.requires.line c.record_hart-hart.ensures) (c.needs-needs.ensures c.args.log.now.harts c.args.log.now.lines c.args.at c.requires.log.flow c.requires.checked.tells (line_next c.args.log.now.lines c.args.at c.record_hart-hart.result c.args.line.now c.requires.line c.record_hart-hart.ensures))).2 ∙ sym c.get-number.ensures)))
+    (sym p.pair.second.1.number ∙ (ap (λ (z : ℕ). records_before z c.args.log.now.lines c.args.at + 1) hart ∙ (sym (c.in_ok-clock.ensures.ok c.args.log.now.harts c.args.log.now.lines c.args.at c.args.line.now c.requires.log.flow c.requires.log.few c.requires.checked.clocks (line_next c.args.log.now.lines c.args.at c.record_hart-hart.result c.args.line.now c.requires.line c.record_hart-hart.ensures) (c.needs-needs.ensures c.args.log.now.harts c.args.log.now.lines c.args.at c.requires.log.flow c.requires.checked.tells (line_next c.args.log.now.lines c.args.at c.record_hart-hart.result c.args.line.now c.requires.line c.record_hart-hart.ensures))).2 ∙ sym c.get-number.ensures)))
 
 pub pass-requires : goal.pass-requires
 pass-requires c = sound_line c.args.log.now.harts c.args.log.now.lines c.requires.log.few c.requires.log.sound c.args.at c.args.line.now (got c.args.log.now.lines c.args.at c.args.line.now c.requires.line)
@@ -67,8 +67,8 @@ pass-requires-3-clause-events c = (line_room c.args.log.now.harts c.args.log.now
 pub returns : goal.returns
 returns c = record {
   tells = c.pass-3.ensures c.args.log.now.harts c.args.log.now.lines c.args.at c.requires.log.flow c.requires.checked.tells next;
-  clocks = (c.in_ok-clock.ensures c.args.log.now.harts c.args.log.now.lines c.args.at c.args.line.now c.requires.log.flow c.requires.log.few c.requires.checked.clocks (line_next c.args.log.now.lines c.args.at c.record_hart-hart.result c.args.line.now c.requires.line c.record_hart-hart.ensures) (c.needs-needs.ensures c.args.log.now.harts c.args.log.now.lines c.args.at c.requires.log.flow c.requires.checked.tells (line_next c.args.log.now.lines c.args.at c.record_hart-hart.result c.args.line.now c.requires.line c.record_hart-hart.ensures))).1;
-  lasts = c.in_ok-pass.ensures c.args.log.now.block c.args.log.now.lines c.args.at c.requires.checked.lasts
+  clocks = (c.in_ok-clock.ensures.ok c.args.log.now.harts c.args.log.now.lines c.args.at c.args.line.now c.requires.log.flow c.requires.log.few c.requires.checked.clocks (line_next c.args.log.now.lines c.args.at c.record_hart-hart.result c.args.line.now c.requires.line c.record_hart-hart.ensures) (c.needs-needs.ensures c.args.log.now.harts c.args.log.now.lines c.args.at c.requires.log.flow c.requires.checked.tells (line_next c.args.log.now.lines c.args.at c.record_hart-hart.result c.args.line.now c.requires.line c.record_hart-hart.ensures))).1;
+  lasts = c.in_ok-pass.ensures.ok c.args.log.now.block c.args.log.now.lines c.args.at c.requires.checked.lasts
       (subst (λ (z : ℕ). IsRecord c.args.log.now.lines c.args.at (hart_of c.args.line.now.what) z c.args.line.now) number next);
   alerts = c.pass-2.ensures c.args.log.now.harts c.args.log.now.lines c.args.at c.requires.log.flow c.requires.checked.tells next c.requires.checked.alerts;
   ordered = ordered_more c.args.log.now.block c.args.log.now.lines c.args.at c.requires.checked.ordered c.in_default.ensures;
@@ -78,4 +78,4 @@ returns c = record {
     next = line_next c.args.log.now.lines c.args.at (hart_of c.args.line.now.what) c.args.line.now c.requires.line refl
 
     number : records_before (hart_of c.args.line.now.what) c.args.log.now.lines c.args.at + 1 ≡ c.get-number.result
-    number = ap (λ (z : ℕ). records_before z c.args.log.now.lines c.args.at + 1) (sym c.record_hart-hart.ensures) ∙ (sym (c.in_ok-clock.ensures c.args.log.now.harts c.args.log.now.lines c.args.at c.args.line.now c.requires.log.flow c.requires.log.few c.requires.checked.clocks (line_next c.args.log.now.lines c.args.at c.record_hart-hart.result c.args.line.now c.requires.line c.record_hart-hart.ensures) (c.needs-needs.ensures c.args.log.now.harts c.args.log.now.lines c.args.at c.requires.log.flow c.requires.checked.tells (line_next c.args.log.now.lines c.args.at c.record_hart-hart.result c.args.line.now c.requires.line c.record_hart-hart.ensures))).2 ∙ sym c.get-number.ensures)
+    number = ap (λ (z : ℕ). records_before z c.args.log.now.lines c.args.at + 1) (sym c.record_hart-hart.ensures) ∙ (sym (c.in_ok-clock.ensures.ok c.args.log.now.harts c.args.log.now.lines c.args.at c.args.line.now c.requires.log.flow c.requires.log.few c.requires.checked.clocks (line_next c.args.log.now.lines c.args.at c.record_hart-hart.result c.args.line.now c.requires.line c.record_hart-hart.ensures) (c.needs-needs.ensures c.args.log.now.harts c.args.log.now.lines c.args.at c.requires.log.flow c.requires.checked.tells (line_next c.args.log.now.lines c.args.at c.record_hart-hart.result c.args.line.now c.requires.line c.record_hart-hart.ensures))).2 ∙ sym c.get-number.ensures)

@@ -1,4 +1,4 @@
-use Rattle.std.proofs.Common.{◌≡◌, ℕ, ◌+◌, ◌<◌, ◌≤◌, List, [], ◌∷◌, ◌++◌, Option, Vec, Global, length, length-append, refl, sym, ap, ◌∙◌, subst, arith}
+use Rattle.std.proofs.Common.{◌≡◌, ℕ, ◌+◌, ◌<◌, ◌≤◌, List, [], ◌∷◌, ◌++◌, Option, Vec, Global, take, length, length-append, refl, sym, ap, ◌∙◌, subst, arith}
 use Rattle.std.proofs.lemmas.List.{get_or_append_left}
 use lib.Seq.{get_or-append_seam}
 use Rattle.pl_event.specs.Edges.{Into}
@@ -9,7 +9,7 @@ use Rattle.log_clocks.specs.declared.clocks.Clocks.{Clocks}
 use Rattle.log_clocks.specs.Clocks.{time, slots, slots_in, slot_of, clock_at, kept_at, known}
 use Rattle.log_clocks.specs.inner.Joins.{IsJoin}
 use Rattle.log_clocks.proofs.RecordClocks.{clock_here}
-use Rattle.log_clocks.proofs.Keeping.{known_last, has_more}
+use Rattle.log_clocks.proofs.Keeping.{front_again, whole_again, kept_anyway, known_last, has_more}
 use Rattle.log_clocks.proofs.clocks.Clocks.next.Goals.{then-is_raised+in_ok-slot, else-is_raised}
 use Rattle.log_clocks.proofs.clocks.Clocks.next.Goals as goal
 
@@ -21,17 +21,17 @@ record Kept (old : Clocks) (h : ℕ) (c : Clock) (now : Clocks) (slot : ℕ) : T
   pub there : slot < length now.kept.items
   pub same : (u : ℕ) → (u ≡ h → ⊥) → time (kept_at now slot) u ≡ time c u
 
-pub returns : goal.returns
-returns c harts g i line flow few has next need = (
+pub returns-clause-ok : goal.returns-clause-ok
+returns-clause-ok c harts g i line flow few has next need = (
   clock,
   has_more g i c.args.hart line next c.requires.hart c.args.self.now c.add.new.self has c.set.new.self c.if-is_raised.slot
       (c.in_ok-add.ensures.added ∙ ap (λ (xs : List ℕ). xs ++ c.if-is_raised.slot ∷ []) (facts.slots_stay c.args.hart))
-      (λ u ne. c.add.ensures.others u ne ∙ facts.slots_stay u)
-      (λ s l. ap (λ (v : Vec Clock Global). clock_at v.items s) c.add.ensures.kept ∙ facts.kept s l)
-      (subst (λ (v : Vec Clock Global). length c.args.self.now.kept.items ≤ length v.items) (sym c.add.ensures.kept) facts.longer)
-      (subst (λ (v : Vec Clock Global). c.if-is_raised.slot < length v.items) (sym c.add.ensures.kept) facts.there)
+      (λ u ne. c.in_ok-add.ensures.others u ne ∙ facts.slots_stay u)
+      (λ s l. ap (λ (v : Vec Clock Global). clock_at v.items s) c.in_ok-add.ensures.kept ∙ facts.kept s l)
+      (subst (λ (v : Vec Clock Global). length c.args.self.now.kept.items ≤ length v.items) (sym c.in_ok-add.ensures.kept) facts.longer)
+      (subst (λ (v : Vec Clock Global). c.if-is_raised.slot < length v.items) (sym c.in_ok-add.ensures.kept) facts.there)
       clock itself
-      (λ u ne. ap (λ (v : Vec Clock Global). time (clock_at v.items c.if-is_raised.slot) u) c.add.ensures.kept ∙ facts.same u ne),
+      (λ u ne. ap (λ (v : Vec Clock Global). time (clock_at v.items c.if-is_raised.slot) u) c.in_ok-add.ensures.kept ∙ facts.same u ne),
   itself,
 )
   where
@@ -73,4 +73,27 @@ returns c harts g i line flow few has next need = (
         there = (let l : slot_of c.args.self.now c.args.hart (records_before c.args.hart g i) < length c.args.self.now.kept.items = has.within c.args.hart (records_before c.args.hart g i) in let e : c.slot-last.result ≡ slot_of c.args.self.now c.args.hart (records_before c.args.hart g i) = last in omega arith);
         same = λ u ne. sym (c.clock_in.ensures u) ∙ (ap (λ (z : Clock). time z u) (sym (c.joined-is_raised.ensures.same w.if-is_raised.false)) ∙ sym (c.set.ensures.others u ne));
       })
+    ]
+
+pub returns-in_err-slot-clause-err : goal.returns-in_err-slot-clause-err
+returns-in_err-slot-clause-err c = kept_anyway c.from_residual.result _
+    (record { records = λ h. ap (λ (z : Vec (Vec ℕ Global) Global). slots_in z.items h) c.keep.ensures.slots; kept = c.in_err-slot.ensures.err })
+
+pub returns-in_err-add-clause-err : goal.returns-in_err-add-clause-err
+returns-in_err-add-clause-err c = kept_anyway c.from_residual-in_err-add.result _ (record {
+  records = λ h. c.in_err-add.ensures.err.1 h ∙ slots_stay h;
+  kept = c.in_err-add.ensures.err.0 ∙ (ap (λ (n : ℕ). take n c.if-is_raised.self.kept.items) c.clocks-count.ensures ∙ front);
+})
+  where
+    slots_stay : (h : ℕ) → slots c.if-is_raised.self h ≡ slots c.args.self.now h
+    slots_stay h = elim c.if-is_raised.branch [
+      | then-is_raised+in_ok-slot w ↦ subst (λ (z : Clocks). slots z h ≡ slots c.args.self.now h) (sym w.self-is) (ap (λ (z : Vec (Vec ℕ Global) Global). slots_in z.items h) w.keep.ensures.slots)
+      | else-is_raised w ↦ subst (λ (z : Clocks). slots z h ≡ slots c.args.self.now h) (sym w.self-is) refl
+    ]
+
+    front : take (length c.args.self.now.kept.items) c.if-is_raised.self.kept.items ≡ c.args.self.now.kept.items
+    front = elim c.if-is_raised.branch [
+      | then-is_raised+in_ok-slot w ↦ subst (λ (z : Clocks). take (length c.args.self.now.kept.items) z.kept.items ≡ c.args.self.now.kept.items) (sym w.self-is)
+          (ap (take (length c.args.self.now.kept.items)) w.in_ok-slot.ensures.kept.1 ∙ front_again c.args.self.now.kept.items (c.set.new.self ∷ []))
+      | else-is_raised w ↦ subst (λ (z : Clocks). take (length c.args.self.now.kept.items) z.kept.items ≡ c.args.self.now.kept.items) (sym w.self-is) (whole_again c.args.self.now.kept.items)
     ]

@@ -1,0 +1,6 @@
+pub mod Matching
+pub mod Ends
+pub mod Spare
+pub mod Same
+pub mod Longer
+pub mod Deciding

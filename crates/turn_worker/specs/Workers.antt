@@ -4,8 +4,7 @@ use Rattle.atomic_table.specs.Seated.{TableId}
 use Rattle.pl_event.specs.declared.fed.Fed.{Fed}
 use Rattle.pl_event.specs.Feeds.{feds_of}
 use Rattle.lifeguard.specs.Rules.{Rules}
-use Rattle.order_core.specs.declared.course.Course.{Course}
-use Rattle.order_core.specs.Course.{Planned, length_of}
+use Rattle.order_core.specs.Course.{Planned, course, length_of}
 use Rattle.order_core.specs.Lawful.{IsLawful}
 use Rattle.order_core.specs.Core.{IsMet}
 use Rattle.order_core.specs.Counts.{writes_before}
@@ -38,9 +37,9 @@ size v = length_of v.seat.course v.seat.hart
 abbrev pub stream_of : WorkerView → List Fed
 stream_of v = feds_of v.seat.hart v.seat.course.log.lines
 
--- its seat is of this monitor's table, whose plan has this course
-abbrev pub IsAt : {P : Type 0} → Monitor P → Course → WorkerView → Type 0
-IsAt m c v = (v.table ≡ m.table.shared.table_id) × (v.seat.course ≡ c)
+-- its seat is of this monitor's table, and has the course of its plan
+abbrev pub IsAt : {P : Type 0} → (P → Planned) → Monitor P → WorkerView → Type 0
+IsAt planned m v = (v.table ≡ m.table.shared.table_id) × (v.seat.course ≡ course planned m.plan)
 
 abbrev pub IsOfTable : TableId → GuardSeat → Type 0
 IsOfTable table seat = seat.seat.table_id ≡ table

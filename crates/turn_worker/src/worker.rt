@@ -44,8 +44,7 @@ pub struct FeedRefused {
 /// The worker of one hart.
 pub trait TurnWorker: Drop {
     ghost use Rattle.std.specs.Prelude.{◌≡◌, ℕ, ◌+◌, ◌≤◌, ◌++◌, OnOk, OnErr, IfErr, true, false};
-    ghost use Rattle.order_core.specs.Course.{course_of, length_of};
-    ghost use Rattle.guard_table.specs.Seats.{seat_view, note_view, plan_of, IsSeatOf, IsNoteOf};
+    ghost use Rattle.guard_table.specs.Seats.{seat_view, note_view, plan_of, IsNoteOf};
     ghost use Rattle.guard_table.specs.Views.{told_by, learnt_from};
     ghost use Rattle.turn_worker.specs.Workers.{WorkerView, IsSound, IsAt, IsNextFed, has_fed, IsWhole, HasSpare, IsOfTable};
     ghost use Rattle.turn_worker.specs.Turns.{IsLaterBy, IsAnswer, HasEnded};
@@ -82,15 +81,15 @@ pub trait TurnWorker: Drop {
 
     /// A note of the worker's hart and its progress word.
     fn note<P: Plan>(&mut self, monitor: &Monitor<P>) -> Note
-        requires { IsAt monitor.now (course_of (P.planned (plan_of monitor.now))) (view self.old) }
+        requires { IsAt P.planned monitor.now (view self.old) }
         ensures same { view self.new ≡ view self.old }
-        ensures note_of { IsNoteOf monitor.now (course_of (P.planned (plan_of monitor.now))) result }
+        ensures note_of { IsNoteOf P.planned monitor.now result }
         ensures note { note_view result ≡ told_by (view self.old).seat };
 
     /// The worker learns what the note tells of its hart.
     fn learn<P: Plan>(&mut self, monitor: &Monitor<P>, note: Note)
-        requires of { IsAt monitor.now (course_of (P.planned (plan_of monitor.now))) (view self.old) }
-        requires note { IsNoteOf monitor.now (course_of (P.planned (plan_of monitor.now))) note }
+        requires of { IsAt P.planned monitor.now (view self.old) }
+        requires note { IsNoteOf P.planned monitor.now note }
         ensures { let v = view self.old in
             view self.new ≡ record v { seat = learnt_from (note_view note) v.seat } };
 
@@ -101,7 +100,7 @@ pub trait TurnWorker: Drop {
         records: u32,
         steps: &mut Steps<L>,
     ) -> Turn
-        requires of { IsAt monitor.now (course_of (P.planned (plan_of monitor.now))) (view self.old) }
+        requires of { IsAt P.planned monitor.now (view self.old) }
         requires plan { P.planned (plan_of monitor.now) ≡ (view self.old).plan }
         requires some { 1 ≤ records }
         ensures later { IsLaterBy records (view self.old) (view self.new) }

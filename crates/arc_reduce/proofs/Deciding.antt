@@ -1,5 +1,5 @@
 -- What a reducer's heads and clocks tell of the next line.
-use Rattle.std.proofs.Common.{◌≡◌, ◌≢◌, ℕ, ◌+◌, ◌^◌, ◌<◌, ◌≤◌, ◌++◌, List, [], ◌∷◌, length, slice_index, slice_index_or, set, get_or-set_same, get_or-set_other, Option, Some, None, refl, sym, ap, ◌∙◌, subst, arith, lt_of_not-le}
+use Rattle.std.proofs.Common.{◌≡◌, ℕ, ◌+◌, ◌^◌, ◌<◌, ◌≤◌, ◌++◌, List, [], ◌∷◌, length, slice_index, slice_index_or, set, get_or-set_same, get_or-set_other, Option, Some, None, refl, sym, ap, ◌∙◌, subst, arith, lt_of_not-le}
 use Rattle.std.proofs.lemmas.List.{get_or_past}
 use mathlib.Core.Logic.{dite}
 use native.Mathlib.Decide.{dec_le}
@@ -16,7 +16,7 @@ use Rattle.log_clocks.specs.Clocks.{slots, time, HasClocks}
 use Rattle.log_clocks.proofs.Grown.{at_end, before_same, tells_on, clocks_on}
 use Rattle.arc_reduce.specs.declared.reducer.Reducer.{Reducer}
 use Rattle.arc_reduce.specs.Reduction.{IsSpare, IsChosen}
-use Rattle.arc_reduce.specs.Taken.{HasTaken, MayTake, with_arcs, with_line, next_number}
+use Rattle.arc_reduce.specs.Taken.{MayTake, with_arcs, with_line, next_number}
 use Rattle.arc_reduce.proofs.Ends.{number, last_record, longer, next_line}
 use Rattle.arc_reduce.proofs.Spare.{no_some, flow_without, known_spare, spare_known}
 

@@ -1,6 +1,6 @@
 -- The last line of a log, and the lines before it.
-use Rattle.std.proofs.Common.{◌≡◌, ◌≢◌, ℕ, zero, suc, ◌+◌, ◌<◌, ◌≤◌, ◌⊎◌, inl, inr, ◌++◌, List, [], ◌∷◌, map, length, refl, sym, ap, ◌∙◌, subst, arith, length-append}
-use mathlib.Core.Option.{some, some-injective}
+use Rattle.std.proofs.Common.{◌≡◌, ℕ, ◌+◌, ◌<◌, ◌⊎◌, inl, inr, ◌++◌, List, [], ◌∷◌, length, refl, sym, ap, ◌∙◌, arith, length-append}
+use mathlib.Core.Option.{some-injective}
 use mathlib.Core.Logic.{dite}
 use native.Mathlib.Decide.{ℕ_discrete}
 use lib.ListN.{get_elem?}
@@ -33,8 +33,13 @@ module _ (g : List Line) (x : Line) where
   either i h m l is = dite (ℕ_discrete i (length g))
       (λ e. let same : l ≡ x = some-injective l x (sym is.at ∙ (ap (get_elem? (g ++ x ∷ [])) e ∙ at_end g x)) in
       let own : h ≡ hart_of x.what = sym is.hart ∙ ap (λ (z : Line). hart_of z.what) same in
-      inr (e, same, own, sym is.number ∙ (ap (λ (z : ℕ). records_before z (g ++ x ∷ []) i + 1) own ∙ (ap (λ (z : ℕ). records_before (hart_of x.what) (g ++ x ∷ []) z + 1) e
-      ∙ ap (λ (z : ℕ). z + 1) (before_same g (x ∷ []) (hart_of x.what) (length g) (omega arith))))))
+      inr (
+        e,
+        same,
+        own,
+        sym is.number ∙ (ap (λ (z : ℕ). records_before z (g ++ x ∷ []) i + 1) own ∙ (ap (λ (z : ℕ). records_before (hart_of x.what) (g ++ x ∷ []) z + 1) e
+            ∙ ap (λ (z : ℕ). z + 1) (before_same g (x ∷ []) (hart_of x.what) (length g) (omega arith)))),
+      ))
       (λ ne. let in_all : i < length (g ++ x ∷ []) = inside (g ++ x ∷ []) i l is.at in
       let long : length (g ++ x ∷ []) ≡ length g + 1 = longer in
       let o : i ≡ length g → ⊥ = ne in

@@ -4,3 +4,5 @@ pub mod Spare
 pub mod Same
 pub mod Longer
 pub mod Deciding
+pub mod Drawing
+pub mod Lawful

@@ -1,9 +1,9 @@
 -- A reduced log with one line more.
-use Rattle.std.proofs.Common.{◌≡◌, ◌≢◌, ℕ, zero, suc, ◌+◌, ◌<◌, ◌≤◌, ◌⊎◌, inl, inr, ⊎_elim, ◌++◌, List, [], ◌∷◌, length, slice_index_or, Option, Some, None, refl, sym, ap, ◌∙◌, subst, arith}
+use Rattle.std.proofs.Common.{◌≡◌, ℕ, zero, suc, ◌+◌, ◌<◌, ◌≤◌, ◌⊎◌, inl, inr, ⊎_elim, ◌++◌, List, [], ◌∷◌, length, slice_index_or, Option, Some, None, refl, sym, ap, ◌∙◌, subst, arith}
 use mathlib.Core.Option.{some-ne-none}
 use Rattle.pl_event.specs.declared.log.Line.{Line}
 use Rattle.pl_event.specs.Edges.{IsArc, IsNotice, IsAfter, Into, IsFlow, arc_of}
-use Rattle.pl_event.specs.Graph.{Edge, Path}
+use Rattle.pl_event.specs.Graph.{Edge}
 use Rattle.pl_event.specs.Numbers.{hart_of}
 use Rattle.pl_event.specs.Records.{records_before, IsRecord, line_number}
 use Rattle.pl_event.proofs.Edges.{forward, source_before}
@@ -122,9 +122,12 @@ module _ (harts : ℕ) (g f : List Line) (line : Line) (candidates kept : List (
   only : (u n w l : ℕ) → IsArc Some_of u n w l → IsArc All u n w l
   only u n w l a = ⊎_elim
       (λ (t : (a.0 < length g) × IsRecord g a.0 w l a.1). arc_on harts f x flow u n w l (reduced.only u n w l (a.0, a.1, t.1, a.3)))
-      (λ (t : (a.0 ≡ length g) × (a.1 ≡ y) × (w ≡ h) × (l ≡ number g y)).
-      (length f, x, subst (λ (z : ℕ × ℕ). IsRecord All (length f) z.0 z.1 x) (λ d. (sym t.2 d, sym (t.3 ∙ same_number) d)) (last_record f x),
-      candidate_of u n (sym (ap (λ (z : Line). arc_of z u) t.1) ∙ a.3)))
+      (λ (t : (a.0 ≡ length g) × (a.1 ≡ y) × (w ≡ h) × (l ≡ number g y)). (
+        length f,
+        x,
+        subst (λ (z : ℕ × ℕ). IsRecord All (length f) z.0 z.1 x) (λ d. (sym t.2 d, sym (t.3 ∙ same_number) d)) (last_record f x),
+        candidate_of u n (sym (ap (λ (z : Line). arc_of z u) t.1) ∙ a.3),
+      ))
       (either g y a.0 w l a.1 a.2)
 
   -- the arc of a record that is not the last one is one of the shorter log

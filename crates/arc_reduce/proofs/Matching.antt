@@ -1,5 +1,5 @@
 -- Two logs with the same records: they have the same notices and events.
-use Rattle.std.proofs.Common.{◌≡◌, ◌≢◌, ℕ, zero, suc, ◌+◌, ◌<◌, ◌≤◌, List, [], ◌∷◌, length, map, refl, sym, ap, ◌∙◌, subst, arith, if◌then◌else◌, eqb}
+use Rattle.std.proofs.Common.{◌≡◌, ℕ, zero, suc, ◌+◌, ◌<◌, ◌≤◌, List, [], ◌∷◌, length, refl, sym, ap, ◌∙◌, subst, if◌then◌else◌, eqb}
 use mathlib.Core.Option.{some, some-injective, some-ne-none}
 use lib.ListN.{get_elem?}
 use Rattle.pl_event.specs.declared.event.Event.{Event}
@@ -11,13 +11,13 @@ use Rattle.pl_event.specs.Records.{records_before, IsRecord, IsEvent}
 use Rattle.pl_event.proofs.Places.{one_place}
 use Rattle.arc_reduce.specs.Reduction.{records_in}
 
-no_cons : (r : Record) (rs : List Record) → [] ≡ r ∷ rs → ⊥
+pub no_cons : (r : Record) (rs : List Record) → [] ≡ r ∷ rs → ⊥
 no_cons r rs e = cc
 
-head_of : {a b : Record} {xs ys : List Record} → a ∷ xs ≡ b ∷ ys → a ≡ b
+pub head_of : {a b : Record} {xs ys : List Record} → a ∷ xs ≡ b ∷ ys → a ≡ b
 head_of e = cc
 
-rest_of : {a b : Record} {xs ys : List Record} → a ∷ xs ≡ b ∷ ys → xs ≡ ys
+pub rest_of : {a b : Record} {xs ys : List Record} → a ∷ xs ≡ b ∷ ys → xs ≡ ys
 rest_of e = cc
 
 pub count_same : (g f : List Line) → records_in g ≡ records_in f → (h i : ℕ) → records_before h g i ≡ records_before h f i
@@ -33,7 +33,7 @@ length_same [] (b ∷ f) e = absurd (no_cons _ _ e)
 length_same (a ∷ g) [] e = absurd (no_cons _ _ (sym e))
 length_same (a ∷ g) (b ∷ f) e = ap suc (length_same g f (rest_of e))
 
-at_same : (g f : List Line) → records_in g ≡ records_in f → (i : ℕ) (l : Line) → get_elem? g i ≡ some l → (k : Line) × (get_elem? f i ≡ some k) × (l.what ≡ k.what)
+pub at_same : (g f : List Line) → records_in g ≡ records_in f → (i : ℕ) (l : Line) → get_elem? g i ≡ some l → (k : Line) × (get_elem? f i ≡ some k) × (l.what ≡ k.what)
 at_same [] f e i l at = absurd (some-ne-none l (sym at))
 at_same (a ∷ g) [] e i l at = absurd (no_cons _ _ (sym e))
 at_same (a ∷ g) (b ∷ f) e zero l at = (b, refl, ap (λ (z : Line). z.what) (sym (some-injective a l at)) ∙ head_of e)

@@ -1,10 +1,8 @@
 -- A candidate is spare exactly where its source reaches its record in the log without it.
-use Rattle.std.proofs.Common.{◌≡◌, ◌≢◌, ℕ, zero, suc, ◌+◌, ◌<◌, ◌≤◌, ◌⊎◌, inl, inr, ⊎_elim, ◌++◌, List, [], ◌∷◌, length, Option, Some, None, refl, sym, ap, ◌∙◌, subst, arith, lt_of_not-le}
-use mathlib.Core.Logic.{dite}
-use native.Mathlib.Decide.{ℕ_discrete, dec_le}
+use Rattle.std.proofs.Common.{◌≡◌, ℕ, ◌+◌, ◌<◌, ◌≤◌, inl, inr, ⊎_elim, ◌++◌, List, [], ◌∷◌, length, Option, Some, None, refl, sym, ap, ◌∙◌, subst, arith}
 use Rattle.pl_event.specs.declared.log.Line.{Line}
-use Rattle.pl_event.specs.Edges.{IsArc, IsNotice, IsAfter, Into, IsFlow, arc_of}
-use Rattle.pl_event.specs.Graph.{Edge, Path, one, more, IsClock}
+use Rattle.pl_event.specs.Edges.{IsArc, Into, IsFlow, arc_of}
+use Rattle.pl_event.specs.Graph.{Path, one, IsClock}
 use Rattle.pl_event.specs.Numbers.{hart_of}
 use Rattle.pl_event.specs.Records.{records_before, IsRecord}
 use Rattle.pl_event.proofs.Growth.{record_on}
@@ -52,8 +50,10 @@ module _ (g : List Line) (x y : Line) (what : x.what ≡ y.what) (u n : ℕ) (ha
 
   arc_on : (v k w l : ℕ) → IsArc G v k w l → IsArc F v k w l × ((v ≡ u) × (k ≡ n) × (w ≡ h) × (l ≡ m) → ⊥)
   arc_on v k w l a = ⊎_elim
-      (λ (t : (a.0 < length g) × IsRecord g a.0 w l a.1). ((a.0, a.1, record_on g (x ∷ []) a.0 w l a.1 t.1, a.3),
-      λ s. apart a.0 a.1 t.0 (subst (λ (z : ℕ × ℕ). IsRecord F a.0 z.0 z.1 a.1) (λ d. (s.2 d, s.3 d)) (record_on g (x ∷ []) a.0 w l a.1 t.1))))
+      (λ (t : (a.0 < length g) × IsRecord g a.0 w l a.1). (
+        (a.0, a.1, record_on g (x ∷ []) a.0 w l a.1 t.1, a.3),
+        λ s. apart a.0 a.1 t.0 (subst (λ (z : ℕ × ℕ). IsRecord F a.0 z.0 z.1 a.1) (λ d. (s.2 d, s.3 d)) (record_on g (x ∷ []) a.0 w l a.1 t.1)),
+      ))
       (λ (t : (a.0 ≡ length g) × (a.1 ≡ y) × (w ≡ hart_of y.what) × (l ≡ number g y)).
       let arc : arc_of y v ≡ Some k = sym (ap (λ (z : Line). arc_of z v) t.1) ∙ a.3 in
       let ne : v ≡ u → ⊥ = λ e. no_some k none (sym (ap (arc_of y) e) ∙ arc) in
@@ -71,9 +71,9 @@ module _ (g : List Line) (x y : Line) (what : x.what ≡ y.what) (u n : ℕ) (ha
   arc_back v k w l a differs = ⊎_elim
       (λ (t : (a.0 < length g) × IsRecord g a.0 w l a.1). (a.0, a.1, record_on g (y ∷ []) a.0 w l a.1 t.1, a.3))
       (λ (t : (a.0 ≡ length g) × (a.1 ≡ x) × (w ≡ h) × (l ≡ m)).
-          let arc : arc_of x v ≡ Some k = sym (ap (λ (z : Line). arc_of z v) t.1) ∙ a.3 in
-          let ne : v ≡ u → ⊥ = λ e. differs (e, some_is (sym (ap (arc_of x) e) ∙ arc) has, t.2, t.3) in
-          (length g, y, subst (λ (z : ℕ × ℕ). IsRecord G (length g) z.0 z.1 y) (λ d. (sym t.2 d, sym t.3 d)) y_end, others v ne ∙ arc))
+      let arc : arc_of x v ≡ Some k = sym (ap (λ (z : Line). arc_of z v) t.1) ∙ a.3 in
+      let ne : v ≡ u → ⊥ = λ e. differs (e, some_is (sym (ap (arc_of x) e) ∙ arc) has, t.2, t.3) in
+      (length g, y, subst (λ (z : ℕ × ℕ). IsRecord G (length g) z.0 z.1 y) (λ d. (sym t.2 d, sym t.3 d)) y_end, others v ne ∙ arc))
       (either g x a.0 w l a.1 a.2)
 
   back : (v k w l : ℕ) → IntoBut F u n h m v k w l → Into G v k w l

@@ -1,2 +1,3 @@
 pub mod Reduction
 pub mod Taken
+pub mod Drawn

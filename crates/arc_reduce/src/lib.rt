@@ -9,5 +9,5 @@
 mod laws;
 mod reducer;
 
-pub use laws::{grown_reduction, reduced_logs};
+pub use laws::{drawn_candidates, grown_reduction, recorded_logs, reduced_logs};
 pub use reducer::{MAX_LINES, Reducer};

@@ -1,10 +1,8 @@
-use Rattle.std.proofs.Common.{◌≡◌, ℕ, ◌+◌, ◌<◌, ◌≤◌, List, length, length-set, set, get_or-set_same, get_or-set_other, Option, None, slice_index_or, refl, sym, ap, ◌∙◌, subst, arith, lt_of_not-le}
-use Rattle.pl_event.proofs.Before.{eight}
+use Rattle.std.proofs.Common.{◌≡◌, ℕ, ◌+◌, ◌<◌, ◌≤◌, List, length, length-set, set, get_or-set_same, get_or-set_other, Option, None, slice_index_or, sym, ap, ◌∙◌, subst, arith, lt_of_not-le}
 use mathlib.Core.Logic.{dite}
 use native.Mathlib.Decide.{ℕ_discrete, dec_le}
-use Rattle.pl_event.specs.declared.log.Line.{Line}
 use Rattle.arc_reduce.specs.Reduction.{IsChosen}
-use Rattle.arc_reduce.specs.Taken.{MayTake, next_number, with_line}
+use Rattle.arc_reduce.specs.Taken.{next_number, with_line}
 use Rattle.arc_reduce.proofs.Deciding.{past_chosen}
 use Rattle.arc_reduce.proofs.reducer.Reducer.chosen.Goals as goal
 

@@ -1,11 +1,10 @@
-use Rattle.std.proofs.Common.{◌≡◌, ◌+◌, ◌<◌, ◌≤◌, ◌++◌, List, [], ◌∷◌, length, subst, sym, ap, arith}
+use Rattle.std.proofs.Common.{◌+◌, ◌<◌, ◌≤◌, ◌++◌, [], ◌∷◌, length, arith}
 use Rattle.std.proofs.lemmas.Bool.{leb-true, leb-false}
-use Rattle.pl_event.specs.declared.log.Line.{Line}
 use Rattle.pl_event.specs.Edges.{Into}
 use Rattle.pl_event.specs.Graph.{IsClock}
 use Rattle.pl_event.specs.Records.{records_before}
 use Rattle.log_clocks.specs.Clocks.{time}
-use Rattle.arc_reduce.specs.Taken.{MayTake, with_arcs}
+use Rattle.arc_reduce.specs.Taken.{with_arcs}
 use Rattle.arc_reduce.proofs.Deciding.{has_room, told, clocked, next, flow_but, is_spare_by, is_not_spare_by}
 use Rattle.arc_reduce.proofs.reducer.Reducer.is_spare.Goals as goal
 

@@ -1,8 +1,8 @@
-use Rattle.std.proofs.Common.{◌≡◌, ◌++◌, List, [], ◌∷◌, length, refl, sym, subst, ap, ℕ, ◌+◌}
+use Rattle.std.proofs.Common.{length, refl, sym, subst}
 use Rattle.pl_event.specs.Heads.{Tells}
 use Rattle.pl_event.specs.Numbers.{hart_of}
 use Rattle.log_clocks.specs.Clocks.{HasClocks}
-use Rattle.arc_reduce.specs.Taken.{MayTake, with_arcs, with_line}
+use Rattle.arc_reduce.specs.Taken.{with_arcs, with_line}
 use Rattle.arc_reduce.proofs.Ends.{longer}
 use Rattle.arc_reduce.proofs.Deciding.{has_room, told, clocked, next}
 use Rattle.arc_reduce.proofs.reducer.Reducer.pass.Goals as goal

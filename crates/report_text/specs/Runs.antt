@@ -1,5 +1,5 @@
 -- The longest runs of bytes with one nibble that is not 0, by address.
-use Rattle.std.specs.Prelude.{◌≡◌, ◌≢◌, ℕ, zero, suc, ◌+◌, ◌-◌, ◌^◌, ◌<◌, ◌≤◌, ◌&&◌, ◌==◌, List, [], ◌∷◌, All, AllPairs, Any, if◌then◌else◌}
+use Rattle.std.specs.Prelude.{◌≡◌, ◌≢◌, ℕ, zero, suc, ◌+◌, ◌-◌, ◌<◌, ◌≤◌, ◌&&◌, ◌==◌, List, [], ◌∷◌, All, AllPairs, Any, if◌then◌else◌}
 use Rattle.pl_base.specs.declared.layout.TheConstants.{MEMORY_BYTES}
 use Rattle.lifeguard.specs.State.{Bytes, nibble_at}
 use Rattle.report_text.specs.declared.runs.ByteRun.{ByteRun}

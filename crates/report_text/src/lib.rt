@@ -6,8 +6,10 @@
 //! through whatever tells the nibble of a byte: the finder knows of no representation.
 #![tactic(auto)]
 
+mod frame_runs;
 mod lines;
 mod runs;
 
+pub use frame_runs::runs_of_words;
 pub use lines::text;
 pub use runs::{ByteRun, runs_of_plain};

@@ -1,3 +1,4 @@
+//! The longest runs of the bytes of memory, through whatever tells their nibbles.
 ghost use Rattle.std.specs.Prelude.{◌≡◌, ℕ, true, ◌<◌, ◌≤◌, ◌+◌, ◌^◌, ◌++◌, length, slice_index, IfOk, OnOk};
 ghost use Rattle.pl_base.specs.declared.layout.TheConstants.{MEMORY_BYTES, PAGE_BYTES};
 ghost use Rattle.lifeguard.specs.State.{Bytes, nibble_at};
@@ -22,7 +23,7 @@ pub struct ByteRun {
 }
 
 /// What tells the nibbles of the bytes of memory.
-trait Nibbles {
+pub(crate) trait Nibbles {
     ghost bytes: { Self → Bytes };
 
     ghost count: { Self → ℕ };
@@ -132,7 +133,7 @@ fn close(done: &mut Vec<ByteRun>, first: u32, at: u32, nibble: u8) -> Result<(),
 }
 
 /// The longest runs of the bytes below `size`, by address.
-fn runs_below<N: Nibbles + Copy>(
+pub(crate) fn runs_below<N: Nibbles + Copy>(
     alloc: Global,
     nibbles: N,
     size: u32,

@@ -1,0 +1,8 @@
+pub mod Clashing
+pub mod Positions
+pub mod Touching
+pub mod LowWords
+pub mod Wide
+pub mod OpeningWords
+pub mod FinalWords
+pub mod PlanLemmas

@@ -1,3 +1,4 @@
 pub mod RegisterLemmas
 pub mod ResolveLemmas
 pub mod OldestLemmas
+pub mod CallLemmas

@@ -27,7 +27,8 @@ impl Inherit {
     ghost use Rattle.std.specs.Prelude.{◌≡◌, ℕ, ◌<◌, ◌↔◌, IsTrue, IfSome, None};
     ghost use Rattle.pl_base.specs.declared.layout.TheConstants.{MEMORY_BYTES, REGISTERS};
     ghost use Rattle.inherit_track.specs.declared.state.RegState.TheVariants as reg;
-    ghost use Rattle.inherit_track.specs.States.{state_in, with_state, IsInRange, IsResolved, HoldsIn, HoldsSome, IsOldest};
+    ghost use Rattle.inherit_track.specs.States.{state_in, with_state, IsInRange, IsResolved};
+    ghost use Rattle.inherit_track.specs.States.{HoldsIn, HoldsSome, IsOldest};
 
     /// All registers are known, and clear.
     pub fn new() -> Inherit

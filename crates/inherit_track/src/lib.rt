@@ -7,8 +7,10 @@
 #![tactic(auto)]
 
 mod inherit;
+mod laws;
 mod state;
 mod states;
 
 pub use inherit::Inherit;
+pub use laws::held_sources_were_loaded;
 pub use state::{Held, RegState};

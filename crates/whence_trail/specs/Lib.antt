@@ -1,0 +1,4 @@
+pub mod Happenings
+pub mod Blocks
+pub mod Nearness
+pub mod Answers

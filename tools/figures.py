@@ -1,7 +1,7 @@
 #!/usr/bin/env python3
 """Makes the logs and the job that docs/PERFORMANCE.md measures, and measures programs on them.
 
-    tools/figures.py make FOLDER                 writes the inputs, about 300 MB, in some minutes
+    tools/figures.py make FOLDER                 writes the inputs, 250 MB, in some minutes
     tools/figures.py time FOLDER PROGRAM OTHER   runs each command eleven times on both programs in turn
 
 `time` prints a row for each command: the least CPU time of PROGRAM, the ratio of that to OTHER's, and PROGRAM's peak

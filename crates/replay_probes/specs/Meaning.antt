@@ -28,7 +28,11 @@ line_behind meaning seen further = meaning.line (up_to_stop meaning.stops seen f
 
 -- an event behind those before it, with its place in the run and its number in its hart
 abbrev pub shown_behind : List Event → Event → Shown
-shown_behind before event = record { place = length before + 1; number = events_on event.hart before + 1; event = event }
+shown_behind before event = record {
+  place = length before + 1;
+  number = events_on event.hart before + 1;
+  event = event;
+}
 
 abbrev pub shown_from : List Event → List Event → List Shown
 shown_from before [] = []

@@ -12,6 +12,7 @@ use Rattle.replay_probes.specs.Watched.{Watched}
 
 module _ {B : Type 0} (meaning : B → Meaning) (has_seen : B → List Shown → Type 0) where
   -- these events were played: the shadow state is their plain result, and the probes were shown them
-  pub record Plays (rules : Rules) (pages : List PageRun) (meanings : List Meaning) (events : List Event) (shadow : Shadow) (audience : Audience B) : Type 0 where
+  pub record Plays (rules : Rules) (pages : List PageRun) (meanings : List Meaning) (events : List Event)
+      (shadow : Shadow) (audience : Audience B) : Type 0 where
     pub stands : Represents rules pages events shadow
     pub watched : Watched meaning has_seen meanings events audience

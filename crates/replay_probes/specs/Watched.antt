@@ -23,4 +23,5 @@ module _ {B : Type 0} (meaning : B → Meaning) (has_seen : B → List Shown →
     pub counts : (h : ℕ) → h < MAX_HARTS → slice_index audience.counts h ≡ events_on h events
     pub many : length audience.watches.items ≡ length meanings
     pub telling : (k : ℕ) (watch : Watch B) (other : Meaning) → k < length meanings
-        → WillTell meaning has_seen (telling_behind (slice_index_or meanings k other) events) (slice_index_or audience.watches.items k watch)
+        → WillTell meaning has_seen (telling_behind (slice_index_or meanings k other) events)
+        (slice_index_or audience.watches.items k watch)

@@ -1,3 +1,4 @@
+//! The probes of a run.
 ghost use Rattle.std.specs.Prelude.{ℕ, ◌≤◌, slice_index};
 ghost use Rattle.pl_base.specs.declared.layout.TheConstants.{MAX_HARTS, MAX_RECORDS};
 
@@ -36,13 +37,14 @@ impl<B: Probe> Audience<B> {
         })
     }
 
-    /// Shows the next event, of a hart below 8, to each probe that has not stopped. Without memory all probes stay in their
-    /// places, but only some of them have seen the event: nothing more may be shown.
+    /// Shows the next event, of a hart below 8, to each probe that has not stopped. Out of memory all probes stay in
+    /// their places, but only some of them have seen the event: nothing more may be shown.
     #[inline]
     pub fn show(&mut self, alloc: Global, event: &Event) -> Result<(), NoMemory>
         requires hart { event.now.hart < MAX_HARTS }
         requires room { place_of self.old < MAX_RECORDS }
-        ensures watched { OnOk result ((meanings : List Meaning) (events : List Event) → Watched B.meaning B.has_seen meanings events self.old
+        ensures watched { OnOk result ((meanings : List Meaning) (events : List Event)
+            → Watched B.meaning B.has_seen meanings events self.old
             → Watched B.meaning B.has_seen meanings (events ++ event.now ∷ []) self.new) }
         ensures place { place_of self.new ≡ place_of self.old + 1 }
     {
@@ -60,7 +62,8 @@ impl<B: Probe> Audience<B> {
 
     /// The lines, in the order of the probes.
     pub fn finish(self, alloc: Global) -> Result<Vec<Vec<u8>>, NoMemory>
-        ensures { IfOk result (λ lines. (meanings : List Meaning) (events : List Event) → Watched B.meaning B.has_seen meanings events self
+        ensures { IfOk result (λ lines. (meanings : List Meaning) (events : List Event)
+            → Watched B.meaning B.has_seen meanings events self
             → map (λ line. line.items) lines.items ≡ map (line_over events) meanings) }
     {
         let Audience {

@@ -1,3 +1,4 @@
+//! A probe in a box.
 use crate::probe::{Probe, See};
 use pl_base::NoMemory;
 use pl_event::Event;

@@ -1,3 +1,4 @@
+//! A whole log, played.
 ghost use Rattle.std.specs.Prelude.{◌≡◌, ◌<◌, ◌≤◌, ◌+◌, ◌++◌, [], List, All, IfOk, OnOk, length, map};
 ghost use Rattle.std.specs.List.{cons_option};
 ghost use Rattle.pl_base.specs.declared.layout.TheConstants.{PAGE_COUNT, MAX_HARTS, MAX_RECORDS};
@@ -17,8 +18,8 @@ use pl_base::NoMemory;
 use pl_event::{Lines, Log, PageRun, Record};
 use std::alloc::Global;
 
-/// Plays all events of a log, one by one in executed order, under a lifeguard and under the eyes of probes that have seen
-/// no event.
+/// Plays all events of a log, one by one in executed order, under a lifeguard and under the eyes of probes that have
+/// seen no event.
 ///
 /// The monitor is the plain one, whatever the probes are. Each probe is shown every event once, with its place and its
 /// number in its hart, up to its own stop, where it is finished and dropped; the others are at the end.
@@ -30,7 +31,8 @@ pub fn replay<L: Lifeguard>(
 ) -> Result<Replayed<L>, NoMemory>
     requires playable { CanPlay log.now }
     requires fresh { All (λ probe. has_seen probe []) probes.items }
-    ensures stands { IfOk result (λ replayed. Represents (L.rules l) log.now.pages (events_of log.now.lines) replayed.monitor.shadow) }
+    ensures stands { IfOk result (λ replayed. Represents (L.rules l) log.now.pages (events_of log.now.lines)
+        replayed.monitor.shadow) }
     ensures guard { IfOk result (λ replayed. replayed.monitor.guard ≡ l) }
     ensures harts { IfOk result (λ replayed. replayed.monitor.harts ≡ log.now.harts) }
     ensures lines { IfOk result (λ replayed. map (λ line. line.items) replayed.lines.items
@@ -66,7 +68,8 @@ fn play<L: Lifeguard, B: Probe>(
     requires valid { All (CanPlayLine harts) lines.now }
     requires short { length lines.now ≤ MAX_RECORDS }
     requires fresh { All (λ probe. B.has_seen probe []) probes.items }
-    ensures plays { IfOk result (λ replayer. Plays B.meaning B.has_seen (L.rules l) pages.now (map B.meaning probes.items) (events_of lines.now) replayer.monitor.shadow replayer.audience) }
+    ensures plays { IfOk result (λ replayer. Plays B.meaning B.has_seen (L.rules l) pages.now
+        (map B.meaning probes.items) (events_of lines.now) replayer.monitor.shadow replayer.audience) }
     ensures guard { IfOk result (λ replayer. replayer.monitor.guard ≡ l) }
     ensures harts { IfOk result (λ replayer. replayer.monitor.harts ≡ harts) }
 {
@@ -87,8 +90,10 @@ fn step_record<L: Lifeguard, B: Probe>(
     requires valid { CanPlayRecord replayer.old.monitor.harts what }
     requires room { place_of replayer.old.monitor.shadow < MAX_RECORDS }
     ensures plays { OnOk result ((pages : List PageRun) (meanings : List Meaning) (events : List Event)
-        → Plays B.meaning B.has_seen (L.rules replayer.old.monitor.guard) pages meanings events replayer.old.monitor.shadow replayer.old.audience
-        → Plays B.meaning B.has_seen (L.rules replayer.old.monitor.guard) pages meanings (events ++ cons_option (event_of what) []) replayer.new.monitor.shadow replayer.new.audience) }
+        → Plays B.meaning B.has_seen (L.rules replayer.old.monitor.guard) pages meanings events
+        replayer.old.monitor.shadow replayer.old.audience
+        → Plays B.meaning B.has_seen (L.rules replayer.old.monitor.guard) pages meanings
+        (events ++ cons_option (event_of what) []) replayer.new.monitor.shadow replayer.new.audience) }
     ensures guard { replayer.new.monitor.guard ≡ replayer.old.monitor.guard }
     ensures harts { replayer.new.monitor.harts ≡ replayer.old.monitor.harts }
 {

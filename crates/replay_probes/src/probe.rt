@@ -1,3 +1,4 @@
+//! What a probe is.
 use pl_base::NoMemory;
 use pl_event::Event;
 use std::alloc::Global;
@@ -21,8 +22,8 @@ pub enum See {
 
 /// What looks on while a run is played, and ends with one line.
 ///
-/// What a probe makes of the events that it has seen is fixed from the start. It may keep less than these events, as long
-/// as that serves its line.
+/// What a probe makes of the events that it has seen is fixed from the start. It may keep less than these events, as
+/// long as that serves its line.
 pub trait Probe: Drop {
     ghost use Rattle.std.specs.Prelude.{◌≡◌, ◌++◌, ◌∷◌, [], List, IfOk, OnErr};
     ghost use Rattle.replay_probes.specs.declared.probe.Shown.{Shown};
@@ -51,10 +52,12 @@ pub trait Probe: Drop {
         ensures seen { IfOk result (λ see. (seen : List Shown) → has_seen self.old seen
             → has_seen self.new (seen ++ record { place = place; number = number; event = event.now } ∷ [])) }
         ensures stop { IfOk result (λ see. (seen : List Shown) → has_seen self.old seen
-            → is_stop see ≡ (meaning self.old).stops (seen ++ record { place = place; number = number; event = event.now } ∷ [])) }
+            → is_stop see
+            ≡ (meaning self.old).stops (seen ++ record { place = place; number = number; event = event.now } ∷ [])) }
         ensures err { OnErr result ((seen : List Shown) → has_seen self.old seen → has_seen self.new seen) };
 
     /// Its line, without the line feed.
     fn finish(&self, alloc: Global) -> Result<Vec<u8>, NoMemory>
-        ensures { IfOk result (λ line. (seen : List Shown) → has_seen self.now seen → line.items ≡ (meaning self.now).line seen) };
+        ensures { IfOk result (λ line. (seen : List Shown) → has_seen self.now seen
+            → line.items ≡ (meaning self.now).line seen) };
 }

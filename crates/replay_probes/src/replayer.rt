@@ -1,3 +1,4 @@
+//! A run that is played event by event.
 ghost use Rattle.std.specs.Prelude.{◌≡◌};
 ghost use Rattle.pl_base.specs.declared.layout.TheConstants.{PAGE_COUNT, MAX_HARTS, MAX_RECORDS};
 ghost use Rattle.lifeguard.specs.Shadow.{place_of};
@@ -49,7 +50,8 @@ impl<L: Lifeguard, B: Probe> Replayer<L, B> {
         requires few { harts ≤ MAX_HARTS }
         requires inside { All (λ run. run.first + run.count ≤ PAGE_COUNT) pages.now }
         requires fresh { All (λ probe. B.has_seen probe []) probes.items }
-        ensures plays { IfOk result (λ replayer. Plays B.meaning B.has_seen (L.rules l) pages.now (map B.meaning probes.items) [] replayer.monitor.shadow replayer.audience) }
+        ensures plays { IfOk result (λ replayer. Plays B.meaning B.has_seen (L.rules l) pages.now
+            (map B.meaning probes.items) [] replayer.monitor.shadow replayer.audience) }
         ensures ready { IfOk result (λ replayer. replayer.lost ≡ false) }
         ensures guard { IfOk result (λ replayer. replayer.monitor.guard ≡ l) }
         ensures harts { IfOk result (λ replayer. replayer.monitor.harts ≡ harts) }
@@ -63,19 +65,23 @@ impl<L: Lifeguard, B: Probe> Replayer<L, B> {
         })
     }
 
-    /// Plays one event that is valid for the run's number of harts; at most 2,000,000 are played. Without memory the run
-    /// is lost: no later call answers anything else.
+    /// Plays one event that is valid for the run's number of harts; at most 2,000,000 are played. Out of memory the run
+    /// is lost: no later call answers anything else, and the monitor stays as it is.
     #[inline]
     pub fn step(&mut self, alloc: Global, event: &Event) -> Result<(), NoMemory>
         requires valid { IsValidEvent event.now self.old.monitor.harts }
         requires room { place_of self.old.monitor.shadow < MAX_RECORDS }
         ensures plays { OnOk result ((pages : List PageRun) (meanings : List Meaning) (events : List Event)
-            → Plays B.meaning B.has_seen (L.rules self.old.monitor.guard) pages meanings events self.old.monitor.shadow self.old.audience
-            → Plays B.meaning B.has_seen (L.rules self.old.monitor.guard) pages meanings (events ++ event.now ∷ []) self.new.monitor.shadow self.new.audience) }
+            → Plays B.meaning B.has_seen (L.rules self.old.monitor.guard) pages meanings events
+            self.old.monitor.shadow self.old.audience
+            → Plays B.meaning B.has_seen (L.rules self.old.monitor.guard) pages meanings (events ++ event.now ∷ [])
+            self.new.monitor.shadow self.new.audience) }
         ensures guard { self.new.monitor.guard ≡ self.old.monitor.guard }
         ensures harts { self.new.monitor.harts ≡ self.old.monitor.harts }
+        ensures goes_on { OnOk result (self.new.lost ≡ false) }
         ensures lost { OnErr result (IsTrue self.new.lost) }
         ensures stays_lost { IsTrue self.old.lost → IsErr result }
+        ensures monitor { IsTrue self.old.lost → self.new.monitor ≡ self.old.monitor }
     {
         if self.lost {
             return Err(NoMemory);
@@ -104,7 +110,8 @@ impl<L: Lifeguard, B: Probe> Replayer<L, B> {
     /// The monitor, and the lines of the probes.
     pub fn finish(self, alloc: Global) -> Result<Replayed<L>, NoMemory>
         ensures stands { IfOk result (λ replayed. replayed.monitor ≡ self.monitor) }
-        ensures lines { IfOk result (λ replayed. (rules : Rules) (pages : List PageRun) (meanings : List Meaning) (events : List Event)
+        ensures lines { IfOk result (λ replayed. (rules : Rules) (pages : List PageRun)
+            (meanings : List Meaning) (events : List Event)
             → Plays B.meaning B.has_seen rules pages meanings events self.monitor.shadow self.audience
             → map (λ line. line.items) replayed.lines.items ≡ map (line_over events) meanings) }
         ensures stays_lost { IsTrue self.lost → IsErr result }

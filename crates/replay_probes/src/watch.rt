@@ -1,3 +1,4 @@
+//! One probe of a run.
 ghost use Rattle.std.specs.Prelude.{IfOk};
 ghost use Rattle.replay_probes.specs.Watches.{IsShown, IsLineOf};
 
@@ -12,8 +13,8 @@ pub enum Watch<B> {
     Off(Vec<u8>),
 }
 
-/// Shows an event to a probe that still sees; one that stops is finished and dropped. Without memory the probe stays where
-/// it is: it has seen the event where only its line had no room, and else not.
+/// Shows an event to a probe that still sees; one that stops is finished and dropped. Out of memory the probe stays
+/// where it is: it has seen the event where only its line had no room, and else not.
 #[inline]
 pub fn show<B: Probe>(alloc: Global, watch: &mut Watch<B>, shown: &Shown) -> Result<(), NoMemory>
     ensures { IfOk result (λ _. IsShown B.meaning B.has_seen shown.now watch.old watch.new) }

@@ -28,7 +28,8 @@ pub fn show_all<B: Probe>(
     shown: &Shown,
 ) -> Result<(), NoMemory>
     ensures { IfOk result (λ _. (k : ℕ) (watch : Watch B) → k < length watches.old
-        → IsShown B.meaning B.has_seen shown.now (slice_index_or watches.old k watch) (slice_index_or watches.new k watch)) }
+        → IsShown B.meaning B.has_seen shown.now
+        (slice_index_or watches.old k watch) (slice_index_or watches.new k watch)) }
 {
     for k in 0..watches.len() {
         show(alloc, &mut watches[k], shown)?;
@@ -40,7 +41,8 @@ pub fn show_all<B: Probe>(
 pub fn end_all<B: Probe>(alloc: Global, watches: Vec<Watch<B>>) -> Result<Vec<Vec<u8>>, NoMemory>
     ensures long { IfOk result (λ lines. length lines.items ≡ length watches.items) }
     ensures told { IfOk result (λ lines. (k : ℕ) (watch : Watch B) → k < length watches.items
-        → IsLineOf B.meaning B.has_seen (slice_index_or watches.items k watch) (slice_index_or (map (λ line. line.items) lines.items) k [])) }
+        → IsLineOf B.meaning B.has_seen (slice_index_or watches.items k watch)
+        (slice_index_or (map (λ line. line.items) lines.items) k [])) }
 {
     let mut lines = Vec::with_capacity(alloc, watches.len())?;
     for watch in watches {

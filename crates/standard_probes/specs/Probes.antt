@@ -1,5 +1,6 @@
 -- What the standard probes make of the events that they have seen.
-use Rattle.std.specs.Prelude.{◌≡◌, ℕ, false, ◌==◌, List, Option, Some, None, if◌then◌else◌, count_by, sum_by, find, is_some, codes, slice_index}
+use Rattle.std.specs.Prelude.{◌≡◌, ℕ, false, ◌==◌, List, Option, Some, None, if◌then◌else◌}
+use Rattle.std.specs.Prelude.{count_by, sum_by, find, is_some, codes, slice_index}
 use Rattle.pl_base.specs.Widths.{load_bytes, store_bytes}
 use Rattle.pl_event.specs.Alerts.{is_alert_kind}
 use Rattle.pl_event.specs.declared.event.Kind.{Kind}

@@ -11,7 +11,12 @@ use Rattle.turn_worker.specs.Workers.{WorkerView}
 -- harts and advertises, with at most three reports a record
 pub record IsLaterBy (n : ℕ) (v w : WorkerView) : Type 0 where
   pub same : w ≡ record v { seat = w.seat; taken = w.taken; spare = w.spare }
-  pub seat : w.seat ≡ record v.seat { written = w.seat.written; progress = w.seat.progress; seen = w.seat.seen; looks = w.seat.looks }
+  pub seat : w.seat ≡ record v.seat {
+    written = w.seat.written;
+    progress = w.seat.progress;
+    seen = w.seat.seen;
+    looks = w.seat.looks;
+  }
   pub taken : v.taken ≤ w.taken
   pub few : w.taken ≤ v.taken + n
   pub written : v.seat.written ≤ w.seat.written

@@ -43,10 +43,11 @@ pub struct FeedRefused {
 
 /// The worker of one hart.
 pub trait TurnWorker: Drop {
-    ghost use Rattle.std.specs.Prelude.{◌≡◌, ℕ, ◌+◌, ◌≤◌, ◌++◌, OnOk, OnErr, IfErr, true, false};
+    ghost use Rattle.std.specs.Prelude.{◌≡◌, ◌+◌, ◌≤◌, OnOk, OnErr, IfErr, true};
     ghost use Rattle.guard_table.specs.Seats.{seat_view, note_view, plan_of, IsNoteOf};
     ghost use Rattle.guard_table.specs.Views.{told_by, learnt_from};
-    ghost use Rattle.turn_worker.specs.Workers.{WorkerView, IsSound, IsAt, IsNextFed, has_fed, IsWhole, HasSpare, IsOfTable};
+    ghost use Rattle.turn_worker.specs.Workers.{WorkerView, IsSound, IsAt, IsOfTable, IsNextFed, has_fed, IsWhole};
+    ghost use Rattle.turn_worker.specs.Workers.{HasSpare};
     ghost use Rattle.turn_worker.specs.Turns.{IsLaterBy, IsAnswer, HasEnded};
     ghost use Rattle.turn_worker.specs.Results.{IsResult};
 

@@ -1,23 +1,17 @@
 -- What the worker of a hart finds: what the plain rules give on that hart.
-use Rattle.std.specs.Prelude.{◌≡◌, ℕ, ◌<◌, ◌==◌, ◌&&◌, Bool, true, false, not, List, count_by, filter, slice_index}
+use Rattle.std.specs.Prelude.{◌≡◌, ℕ, ◌<◌, ◌&&◌, Bool, false, not, List, count_by, slice_index}
 use Rattle.pl_base.specs.declared.layout.TheConstants.{REGISTERS}
-use Rattle.pl_event.specs.declared.event.Kind.{Kind}
-use Rattle.pl_event.specs.declared.event.Kind.TheVariants.{Ld, St}
 use Rattle.pl_event.specs.declared.log.Line.{Line}
 use Rattle.pl_event.specs.declared.log.Record.{Record}
 use Rattle.pl_event.specs.declared.log.Record.TheVariants as entry
+use Rattle.pl_event.specs.Conflicts.{is_access}
 use Rattle.pl_event.specs.Numbers.{is_of, events_of}
-use Rattle.lifeguard.specs.declared.report.Report.{Report}
 use Rattle.lifeguard.specs.Rules.{Rules}
 use Rattle.lifeguard.specs.Plain.{is_taint, plain_result}
+use Rattle.lifeguard.specs.Ranges.{reports_on}
 use Rattle.lifeguard.specs.State.{State}
 use Rattle.turn_worker.specs.declared.worker.HartResult.{HartResult}
 use Rattle.turn_worker.specs.Workers.{WorkerView, size}
-
-abbrev pub is_access : Kind → Bool
-is_access (Ld width rd rb addr) = true
-is_access (St width rv rb addr) = true
-is_access _ = false
 
 abbrev pub has_access : Record → Bool
 has_access (entry.Event event) = is_access event.kind
@@ -36,10 +30,6 @@ abbrev pub final_state : WorkerView → State
 final_state v =
     let log = v.seat.course.log in
     plain_result v.rules log.pages (events_of log.lines)
-
--- the reports of a hart
-abbrev pub reports_on : ℕ → List Report → List Report
-reports_on hart reports = filter (λ report. report.hart == hart) reports
 
 pub record IsResult (v : WorkerView) (result : HartResult) : Type 0 where
   pub hart : result.hart ≡ v.seat.hart

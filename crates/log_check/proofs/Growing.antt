@@ -1,11 +1,9 @@
 -- A log that grows: what was checked of its first lines, and the pair that was named there.
-use Rattle.std.proofs.Common.{◌≡◌, ℕ, zero, suc, ◌+◌, ◌<◌, ◌≤◌, Bool, true, false, ◌++◌, List, [], ◌∷◌, length, take, refl, sym, ap, ◌∙◌, subst, inl, inr, arith, lt_of_not-le, if◌then◌else◌}
+use Rattle.std.proofs.Common.{◌≡◌, ℕ, ◌+◌, ◌<◌, ◌≤◌, Bool, true, false, ◌++◌, List, length, sym, subst, inl, inr, arith, lt_of_not-le}
 use Rattle.std.specs.Bool.{MatchBool}
-use Rattle.std.proofs.lemmas.List.{take-append-le}
 use mathlib.Core.Logic.{dite}
 use native.Mathlib.Decide.{dec_le}
 use Rattle.pl_event.specs.declared.event.Event.{Event}
-use Rattle.pl_event.specs.declared.heads.Heads.{Heads}
 use Rattle.pl_event.specs.declared.log.Line.{Line}
 use Rattle.pl_event.specs.declared.log.Log.{Log}
 use Rattle.pl_event.specs.declared.log.Point.{Point}
@@ -13,10 +11,9 @@ use Rattle.pl_event.specs.Alerts.{is_alert_kind}
 use Rattle.pl_event.specs.Conflicts.{AreOrdered, HasNotice, IsNoticed, IsPair}
 use Rattle.pl_event.specs.Edges.{IsFlow, IsNotice}
 use Rattle.pl_event.specs.Heads.{Tells}
-use Rattle.pl_event.specs.Numbers.{is_of, events_of, events_on}
 use Rattle.pl_event.specs.Records.{records_before, IsEvent}
 use Rattle.pl_event.specs.Unordered.{IsUnordered, IsOrderedPair}
-use Rattle.pl_event.proofs.Growth.{record_on, record_back, record_low, path_on, path_back, clock_on}
+use Rattle.pl_event.proofs.Growth.{record_back, path_on, path_back}
 use Rattle.pl_event.proofs.Places.{inside, before_up, before_own}
 use Rattle.log_clocks.specs.Clocks.{HasClocks}
 use Rattle.log_clocks.specs.LastAccesses.{HasLast}

@@ -15,7 +15,7 @@ use Rattle.pl_event.proofs.Growth.{record_on, record_back, record_low, clock_on}
 use Rattle.log_clocks.specs.declared.clock.Clock.{Clock}
 use Rattle.log_clocks.specs.declared.clocks.Clocks.{Clocks}
 use Rattle.log_clocks.specs.declared.lasts.LastAccesses.{LastAccesses}
-use Rattle.log_clocks.specs.Clocks.{time, slots, slot_in, clock_at, known, known_in, HasClocks, HasSameClocks}
+use Rattle.log_clocks.specs.Clocks.{time, slot_in, clock_at, known, known_in, HasClocks, HasSameClocks}
 use Rattle.log_clocks.specs.LastAccesses.{last, IsAccess, HasLast, HasSameTable, IsNoAccess}
 use Rattle.log_clocks.specs.declared.lasts.Row.{Row}
 use Rattle.log_clocks.specs.inner.Rows.{in_row, row_at, IsIndexed}

@@ -1,4 +1,4 @@
-use Rattle.std.proofs.Common.{◌≡◌, ℕ, ◌+◌, List, Option, sym, ap, ◌∙◌, subst}
+use Rattle.std.proofs.Common.{◌≡◌, ℕ, ◌+◌, List, Option, ap, ◌∙◌, subst}
 use Rattle.pl_event.specs.Edges.{Into}
 use Rattle.pl_event.specs.Graph.{IsClock}
 use Rattle.pl_event.specs.Records.{records_before}

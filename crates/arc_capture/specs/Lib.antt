@@ -1,0 +1,4 @@
+pub mod Recorded
+pub mod Capture
+pub mod Marker
+pub mod Recorder

@@ -1,0 +1,75 @@
+//! The recorder, event by event.
+ghost use Rattle.std.specs.Prelude.{◌≡◌, ℕ, ◌⊎◌, ◌≤◌, [], ◌∷◌, ◌++◌, List, IfOk, IsErr, OnErr, true};
+ghost use Rattle.pl_base.specs.declared.layout.TheConstants.{MAX_HARTS};
+ghost use Rattle.pl_event.specs.declared.event.Event.{Event};
+ghost use Rattle.pl_event.specs.declared.log.Line.{Line};
+ghost use Rattle.pl_event.specs.Runs.{IsBlockSize};
+
+use crate::marker::Marker;
+use conflict_alerts::Placer;
+use pl_base::NoMemory;
+use pl_event::{Event, Line};
+use std::alloc::Global;
+
+/// A placer, and a marker of its lines.
+#[derive(Drop)]
+pub struct Recorder {
+    placer: Placer,
+    marker: Marker,
+    failed: bool,
+}
+
+impl Recorder {
+    ghost use Rattle.arc_capture.specs.Recorder.{HasRecorded, MayFeed};
+
+    /// Of no event. A run has 1 to 8 harts, and a block 16 or 4 bytes.
+    pub fn new(alloc: Global, harts: u8, block: u8) -> Result<Recorder, NoMemory>
+        requires harts { harts ≤ MAX_HARTS }
+        requires block { IsBlockSize block }
+        ensures harts { IfOk result (λ recorder. recorder.placer.harts ≡ harts) }
+        ensures none { IfOk result (λ recorder. HasRecorded recorder.placer recorder.marker block [] []) }
+    {
+        let marker = Marker::new(alloc, harts, block)?;
+        Ok(Recorder {
+            placer: Placer::new(harts),
+            marker,
+            failed: false,
+        })
+    }
+
+    // The lines of the next event.
+    fn record(&mut self, alloc: Global, event: &Event) -> Result<Vec<Line>, NoMemory>
+        requires { (size : ℕ) × (events : List Event) × (lines : List Line)
+            × MayFeed self.old.placer self.old.marker size events lines event.now }
+        ensures ok { (size : ℕ) (events : List Event) (lines : List Line) →
+            MayFeed self.old.placer self.old.marker size events lines event.now → IfOk result (λ more.
+            HasRecorded self.new.placer self.new.marker size (events ++ event.now ∷ []) (lines ++ more.items)) }
+        ensures harts { self.new.placer.harts ≡ self.old.placer.harts }
+        ensures failed { self.new.failed ≡ self.old.failed }
+    {
+        let placed = self.placer.place(alloc, event)?;
+        self.marker.mark_all(alloc, &placed)
+    }
+
+    /// The lines of the next event: before an alert event a notice in each other hart by rising hart, and the event with
+    /// its arcs, which are the last records that conflict by a block and that it does not come after otherwise. The
+    /// event is valid for the run, and fewer than 2,000,000 were given. After `NoMemory` each answer is `NoMemory`.
+    pub fn feed(&mut self, alloc: Global, event: &Event) -> Result<Vec<Line>, NoMemory>
+        requires { (self.old.failed ≡ true) ⊎ ((size : ℕ) × (events : List Event) × (lines : List Line)
+            × MayFeed self.old.placer self.old.marker size events lines event.now) }
+        ensures ok { (size : ℕ) (events : List Event) (lines : List Line) →
+            MayFeed self.old.placer self.old.marker size events lines event.now → IfOk result (λ more.
+            HasRecorded self.new.placer self.new.marker size (events ++ event.now ∷ []) (lines ++ more.items)) }
+        ensures harts { self.new.placer.harts ≡ self.old.placer.harts }
+        ensures stays { self.old.failed ≡ true → IsErr result }
+        ensures err { OnErr result (self.new.failed ≡ true) }
+    {
+        if self.failed {
+            return Err(NoMemory);
+        }
+        self.failed = true;
+        let lines = self.record(alloc, event)?;
+        self.failed = false;
+        Ok(lines)
+    }
+}

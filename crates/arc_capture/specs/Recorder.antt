@@ -15,7 +15,8 @@ use Rattle.arc_capture.specs.declared.marker.Marker.{Marker}
 use Rattle.arc_capture.specs.Marker.{HasMarked}
 
 -- these are the events so far, and the lines of them
-pub record HasRecorded (placer : Placer) (marker : Marker) (size : ℕ) (events : List Event) (lines : List Line) : Type 0 where
+pub record HasRecorded (placer : Placer) (marker : Marker) (size : ℕ)
+    (events : List Event) (lines : List Line) : Type 0 where
   pub harts : placer.harts ≤ MAX_HARTS
   pub same : marker.reducer.harts ≡ placer.harts
   pub inside : All (λ event. event.hart < placer.harts) events
@@ -23,7 +24,8 @@ pub record HasRecorded (placer : Placer) (marker : Marker) (size : ℕ) (events 
   pub marked : HasMarked marker size (placed placer.harts events) lines
 
 -- the event may be the next one
-pub record MayFeed (placer : Placer) (marker : Marker) (size : ℕ) (events : List Event) (lines : List Line) (event : Event) : Type 0 where
+pub record MayFeed (placer : Placer) (marker : Marker) (size : ℕ)
+    (events : List Event) (lines : List Line) (event : Event) : Type 0 where
   pub has : HasRecorded placer marker size events lines
   pub few : length events < MAX_EVENTS
   pub valid : IsValidEvent event placer.harts

@@ -44,9 +44,9 @@ impl Capture {
         }
     }
 
-    /// Takes the next line. For a load or a store the answer is for each other hart its last record so far that conflicts
-    /// by a block: an access to the same block, where one of both is a store. For any other record there are none. Fewer
-    /// than 16,000,000 lines were given before. Without memory the capture stays as it was.
+    /// Takes the next line. For a load or a store the answer is for each other hart its last record so far that
+    /// conflicts by a block: an access to the same block, where one of both is a store. For any other record there are
+    /// none. Fewer than 16,000,000 lines were given before. Without memory the capture stays as it was.
     pub fn take(&mut self, line: &Line) -> Result<Arcs, NoMemory>
         requires { (size : ℕ) × (lines : List Line) × MayCapture self.old size lines line.now }
         ensures ok { (size : ℕ) (lines : List Line) → MayCapture self.old size lines line.now → IfOk result (λ found.

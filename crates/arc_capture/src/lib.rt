@@ -11,6 +11,6 @@ mod marker;
 mod recorder;
 
 pub use capture::Capture;
-pub use laws::recorded_events;
+pub use laws::{recorded_events, recorder_lines};
 pub use marker::Marker;
 pub use recorder::Recorder;

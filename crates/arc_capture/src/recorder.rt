@@ -51,9 +51,9 @@ impl Recorder {
         self.marker.mark_all(alloc, &placed)
     }
 
-    /// The lines of the next event: before an alert event a notice in each other hart by rising hart, and the event with
-    /// its arcs, which are the last records that conflict by a block and that it does not come after otherwise. The
-    /// event is valid for the run, and fewer than 2,000,000 were given. After `NoMemory` each answer is `NoMemory`.
+    /// The lines of the next event: before an alert event a notice in each other hart by rising hart, and the event
+    /// with its arcs, which are the last records that conflict by a block and that it does not come after otherwise.
+    /// The event is valid for the run, and fewer than 2,000,000 were given. After `NoMemory` each answer is `NoMemory`.
     pub fn feed(&mut self, alloc: Global, event: &Event) -> Result<Vec<Line>, NoMemory>
         requires { (self.old.failed ≡ true) ⊎ ((size : ℕ) × (events : List Event) × (lines : List Line)
             × MayFeed self.old.placer self.old.marker size events lines event.now) }

@@ -1,9 +1,9 @@
 //! A job that is run step by step.
-ghost use Rattle.std.specs.Prelude.{◌≡◌, ◌≤◌, ◌<◌, [], List, IfOk, OnErr, length, slice_get, IfSome, IfNone};
+ghost use Rattle.std.specs.Prelude.{◌≡◌, ◌≤◌, ◌<◌, [], List, IfOk, OnErr, length, slice_get, slice_index_or, IfSome, IfNone};
 ghost use Rattle.core_sim.specs.declared.job.Job.{Job};
 ghost use Rattle.core_sim.specs.Entries.{Entry};
 ghost use Rattle.core_sim.specs.Schedules.{items_of};
-ghost use Rattle.core_sim.specs.Start.{begin_from};
+ghost use Rattle.core_sim.specs.Start.{begin_from, standing_at};
 ghost use Rattle.core_sim.specs.Stands.{Stands, CanGoOn, Comes};
 ghost use Rattle.core_sim.specs.Valid.{IsValidJob};
 ghost use Rattle.pl_base.specs.declared.layout.TheConstants.{MAX_HARTS};
@@ -115,6 +115,17 @@ impl Machine {
         match self.harts.get(usize::from(hart)) {
             Some(standing) => standing.end,
             None => HartEnd::Live,
+        }
+    }
+
+    /// The address of a hart's next instruction, or of the one at which it ended; 0 for a number that is none of the
+    /// job's harts.
+    pub fn pc(&self, hart: u8) -> u32
+        ensures { result ≡ (slice_index_or self.now.harts hart (standing_at 0 0)).state.pc }
+    {
+        match self.harts.get(usize::from(hart)) {
+            Some(standing) => standing.state.pc,
+            None => 0,
         }
     }
 

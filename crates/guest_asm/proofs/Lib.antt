@@ -7,6 +7,7 @@ pub mod Building
 pub mod Reading
 pub mod Pairs
 pub mod Lengths
+pub mod LineCounts
 pub mod Validity
 pub mod Labels
 pub mod Faults

@@ -13,6 +13,7 @@ use Rattle.guest_asm.specs.Texts.{lines_of}
 use Rattle.guest_asm.specs.Lines.{Meaning}
 use Rattle.guest_asm.specs.Rules.{statements_of, statements_in, labels_of, harts_in, is_out_of_range}
 use Rattle.guest_asm.specs.Jobs.{Placed, Cell, placed, rows_of, first_pass, second_pass, passes, first_of, schedule_in, steps_in, IsSmallRow, IsDrawn, IsJobOfRows, IsJobText, HasFault, IfFault, ◌>>=◌}
+use Rattle.guest_asm.specs.WordLines.{IsLinedJobText, lines_of_rows}
 use Rattle.guest_asm.specs.Scans.{defined, Keeps}
 use Rattle.guest_asm.proofs.Scanning.{statements-kept}
 use Rattle.guest_asm.proofs.Sound.{Passed, passed, small_from}
@@ -74,6 +75,13 @@ module _ (bytes : List ℕ) (scan : Scan) (lines : List Meaning) (told : first_p
   text_of job of =
       let here = of_lines job of in
       record { lines = lines; passed = then_second (Ok here.text.cells) here.text.passed; job_of = here }
+
+  -- and the words were read from the lines of its rows
+  pub lined_of : (job : Job) → IsJobOfRows (defined scan.labels) (map placed scan.rows.items) (statements_in scan.rows.items) job
+      → (word_lines : List ℕ) → word_lines ≡ lines_of_rows (map placed scan.rows.items) → IsLinedJobText bytes job word_lines
+  lined_of job of word_lines is =
+      let here = of_lines job of in
+      record { lines = lines; passed = then_second (Ok here.text.cells) here.text.passed; job_of = here; words_from = is ∙ ap lines_of_rows keeps.rows }
 
   pub valid_of : (job : Job) → IsJobOfRows (defined scan.labels) (map placed scan.rows.items) (statements_in scan.rows.items) job → IsDrawn job.schedule × HasTypedNumbers job → IsValidJob job
   valid_of job of (drawn, typed) = valid_job lines scan job ended keeps drawn typed (of_lines job of)

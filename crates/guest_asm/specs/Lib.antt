@@ -7,6 +7,7 @@ pub mod Lines
 pub mod Rules
 pub mod Faults
 pub mod Jobs
+pub mod WordLines
 pub mod Scans
 pub mod Listing
 pub mod Generated

@@ -27,5 +27,5 @@ mod statement;
 pub use cause::{JobCause, JobFault, JobRefused};
 pub use generator::generate;
 pub use laws::{eight_digits, one_fault, register_names};
-pub use list::listing;
-pub use read::read_job;
+pub use list::{listing, word_text};
+pub use read::{LinedJob, read_job, read_lined_job};

@@ -10,8 +10,8 @@ use pl_base::layout::TEXT_START;
 use rv_isa::{decode, render};
 use std::alloc::Global;
 
-/// The text of a word: its instruction, and `.word` where it is none.
-fn word_text(alloc: Global, word: u32) -> Result<String, NoMemory>
+/// The text of a word in a listing: its instruction, and `.word` where it is none.
+pub fn word_text(alloc: Global, word: u32) -> Result<String, NoMemory>
     ensures { IfOk result (λ shown. string_bytes shown ≡ word_text word) }
 {
     match decode(word) {

@@ -1,0 +1,4 @@
+pub mod Text
+pub mod Happened
+pub mod Answered
+pub mod Following

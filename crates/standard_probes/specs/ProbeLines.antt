@@ -37,7 +37,8 @@ counted word count = if count == 0 then [] else 32 ∷ word ++ 32 ∷ decimal co
 
 -- each kind with its count
 unfoldable pub kinds_text : (ℕ → ℕ) → List ℕ
-kinds_text counts = codes "probe kinds" ++ flat_map (λ kind. counted (slice_index_or kind_words kind []) (counts kind)) (span 0 16)
+kinds_text counts = codes "probe kinds"
+    ++ flat_map (λ kind. counted (slice_index_or kind_words kind []) (counts kind)) (span 0 16)
 
 -- each hart with its count, by number; a hart's number is one byte
 unfoldable pub harts_text : (ℕ → ℕ) → List ℕ
@@ -50,4 +51,5 @@ bytes_text loaded stored = codes "probe bytes ld " ++ decimal loaded ++ codes " 
 -- the place of an alert, its hart, and its number in the hart
 abbrev pub alert_text : Option Shown → List ℕ
 alert_text None = codes "probe alert none"
-alert_text (Some shown) = codes "probe alert " ++ decimal shown.place ++ codes " h" ++ decimal shown.event.hart ++ 32 ∷ decimal shown.number
+alert_text (Some shown) = codes "probe alert " ++ decimal shown.place ++ codes " h" ++ decimal shown.event.hart
+    ++ 32 ∷ decimal shown.number

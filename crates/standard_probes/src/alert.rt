@@ -1,3 +1,4 @@
+//! The first alert event.
 ghost use Rattle.std.specs.Prelude.{◌≡◌, IfOk, is_some, string_bytes};
 ghost use Rattle.replay_probes.specs.Meaning.{is_stop};
 ghost use Rattle.standard_probes.specs.ProbeLines.{alert_text};

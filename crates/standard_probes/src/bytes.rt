@@ -1,3 +1,4 @@
+//! Bytes loaded and stored.
 ghost use Rattle.std.specs.Prelude.{◌≡◌, ◌+◌, IfOk, string_bytes};
 ghost use Rattle.standard_probes.specs.ProbeLines.{bytes_text};
 ghost use Rattle.standard_probes.specs.Probes.{loaded_by as bytes_loaded, stored_by as bytes_stored};

@@ -1,3 +1,4 @@
+//! Events by hart.
 ghost use Rattle.std.specs.Prelude.{◌≡◌, ◌++◌, ◌∷◌, IfOk, OnOk, slice_index, string_bytes};
 ghost use Rattle.std.specs.Fmt.{decimal};
 ghost use Rattle.standard_probes.specs.ProbeLines.{counted, harts_text};

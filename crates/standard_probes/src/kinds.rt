@@ -1,3 +1,4 @@
+//! Events by kind.
 ghost use Rattle.std.specs.Prelude.{◌≡◌, ◌<◌, IfOk, slice_index, slice_index_or, string_bytes, []};
 ghost use Rattle.standard_probes.specs.ProbeLines.{kind_number as number_of_kind, kind_words, kinds_text};
 

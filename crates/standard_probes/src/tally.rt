@@ -1,3 +1,4 @@
+//! Counts.
 ghost use Rattle.std.specs.Prelude.{◌≡◌, ◌+◌, ◌<◌, ◌++◌, length, slice_index, slice_set, string_bytes, OnOk, OnErr};
 ghost use Rattle.standard_probes.specs.ProbeLines.{counted};
 

@@ -1,22 +1,9 @@
-//! The standard probes, and the top call with them.
-
-ghost use Rattle.std.specs.Prelude.{[], All};
+//! The top call with the standard probes.
 
 use paralog_top::{Status, plain_top};
 use pl_base::{NoMemory, Sink, Source};
-use replay_probes::Probe;
-use standard_probes::{AlertProbe, ByteProbe, HartProbe, KindProbe};
+use standard_probes::in_order;
 use std::alloc::Global;
-
-/// One more probe that has seen no event.
-fn hand_in(probes: &mut Vec<Box<dyn Probe>>, probe: Box<dyn Probe>) -> Result<(), NoMemory>
-    requires all { All (λ p. has_seen p []) probes.old.items }
-    requires fresh { has_seen probe [] }
-    ensures { All (λ p. has_seen p []) probes.new.items }
-{
-    probes.push(probe)?;
-    Ok(())
-}
 
 /// Runs the words with the standard probes at hand.
 pub fn run<S: Source, K: Sink, E: Sink>(
@@ -26,10 +13,6 @@ pub fn run<S: Source, K: Sink, E: Sink>(
     out: &mut K,
     notes: &mut E,
 ) -> Result<Status, NoMemory> {
-    let mut probes = Vec::new(alloc);
-    hand_in(&mut probes, Box::new(alloc, KindProbe::new())?)?;
-    hand_in(&mut probes, Box::new(alloc, HartProbe::new())?)?;
-    hand_in(&mut probes, Box::new(alloc, ByteProbe::new())?)?;
-    hand_in(&mut probes, Box::new(alloc, AlertProbe::new())?)?;
+    let probes = in_order(alloc)?;
     Ok(plain_top(alloc, words, source, out, notes, probes))
 }

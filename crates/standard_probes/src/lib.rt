@@ -6,9 +6,11 @@ mod alert;
 mod bytes;
 mod harts;
 mod kinds;
+mod order;
 mod tally;
 
 pub use alert::AlertProbe;
 pub use bytes::ByteProbe;
 pub use harts::HartProbe;
 pub use kinds::KindProbe;
+pub use order::in_order;

@@ -5,7 +5,7 @@ use Rattle.paralog_top.specs.declared.status.Status.TheVariants as status
 use Rattle.paralog_top.specs.Asked.{Told, asks}
 use Rattle.paralog_top.specs.Notes.{IsNoted}
 use Rattle.paralog_top.specs.Statuses.{Says}
-use Rattle.standard_probes.specs.Probes.{standard_meanings}
+use Rattle.standard_top.specs.Standard.{standard_meanings}
 
 -- a source that was not read, or a sink to which nothing was written
 pub record IsUntouched (told : Told) : Type 0 where

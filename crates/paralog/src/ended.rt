@@ -1,15 +1,14 @@
 //! How the process ends.
-ghost use Rattle.std.specs.Prelude.{◌≡◌, codes, map, string_bytes, IfOk, OnErr, MatchResult};
+ghost use Rattle.std.specs.Prelude.{◌≡◌, codes, map, string_bytes, MatchResult};
 ghost use Rattle.std.specs.Process.{exit_status};
-ghost use Rattle.paralog_top.specs.Asked.{asks, told};
+ghost use Rattle.paralog_top.specs.Asked.{told};
 ghost use Rattle.paralog_top.specs.Notes.{IsNoted};
-ghost use Rattle.paralog_top.specs.Statuses.{Says, status_code};
-ghost use Rattle.standard_probes.specs.Probes.{standard_meanings};
+ghost use Rattle.paralog_top.specs.Statuses.{status_code};
 ghost use Rattle.paralog.specs.Ended.{Ends, IsNotBegun};
 
-use paralog_top::{Status, plain_top};
+use paralog_top::Status;
 use pl_base::{NoMemory, Sink, Source, write_all_counted};
-use standard_probes::in_order;
+use standard_top::standard_top;
 use std::alloc::Global;
 use std::process::ExitCode;
 
@@ -28,32 +27,12 @@ pub fn status_of<S: Source, K: Sink, E: Sink>(
         (λ _. IsNotBegun input output noted result) }
 {
     match words {
-        Ok(words) => match run(alloc, &words, source, out, notes) {
+        Ok(words) => match standard_top(alloc, &words, source, out, notes) {
             Ok(status) => status,
             Err(NoMemory) => without_memory(notes),
         },
         Err(NoMemory) => without_memory(notes),
     }
-}
-
-/// Runs the words with the standard probes. Where there is no memory for these, nothing is read or written.
-fn run<S: Source, K: Sink, E: Sink>(
-    alloc: Global,
-    words: &[String],
-    source: &mut S,
-    out: &mut K,
-    notes: &mut E,
-) -> Result<Status, NoMemory>
-    ensures says { IfOk result (λ status. Says (asks standard_meanings (map string_bytes words.now))
-        (told (S.left source.old) (S.left source.new) (S.faults source.old) (S.faults source.new))
-        (told (K.written out.old) (K.written out.new) (K.faults out.old) (K.faults out.new))
-        (told (E.written notes.old) (E.written notes.new) (E.faults notes.old) (E.faults notes.new)) status) }
-    ensures source { OnErr result (source.new ≡ source.old) }
-    ensures out { OnErr result (out.new ≡ out.old) }
-    ensures notes { OnErr result (notes.new ≡ notes.old) }
-{
-    let probes = in_order(alloc)?;
-    Ok(plain_top(alloc, words, source, out, notes, probes))
 }
 
 /// The status where no memory is left before the call.

@@ -1,5 +1,5 @@
 -- What the standard probes make of the events that they have seen.
-use Rattle.std.specs.Prelude.{◌≡◌, ℕ, false, ◌==◌, List, [], ◌∷◌, Option, Some, None, if◌then◌else◌}
+use Rattle.std.specs.Prelude.{◌≡◌, ℕ, false, ◌==◌, List, Option, Some, None, if◌then◌else◌}
 use Rattle.std.specs.Prelude.{count_by, sum_by, find, is_some, codes, slice_index}
 use Rattle.pl_base.specs.Widths.{load_bytes, store_bytes}
 use Rattle.pl_event.specs.Alerts.{is_alert_kind}
@@ -80,7 +80,3 @@ alert_meaning = record {
   line = λ seen. alert_text (first_alert seen);
   stops = λ seen. is_some (first_alert seen);
 }
-
--- all of them, in the order in which they are handed in
-abbrev pub standard_meanings : List Meaning
-standard_meanings = kinds_meaning ∷ harts_meaning ∷ bytes_meaning ∷ alert_meaning ∷ []

@@ -6,11 +6,9 @@ mod alert;
 mod bytes;
 mod harts;
 mod kinds;
-mod order;
 mod tally;
 
 pub use alert::AlertProbe;
 pub use bytes::ByteProbe;
 pub use harts::HartProbe;
 pub use kinds::KindProbe;
-pub use order::in_order;

@@ -40,7 +40,6 @@
 mod device;
 mod outcome;
 mod play;
-mod probes;
 mod report;
 mod row;
 mod tally;

@@ -1,9 +1,9 @@
 //! Plays a row: its words on its input.
 
 use crate::outcome::Outcome;
-use crate::probes::run;
 use crate::row::Row;
 use pl_base::{Failed, MemSource, NoMemory, Source};
+use standard_top::standard_top;
 use std::alloc::Global;
 
 /// How many bytes the source has left, whichever reads fail.
@@ -25,7 +25,7 @@ pub fn play(alloc: Global, row: &Row) -> Result<Outcome, NoMemory> {
     let mut source = row.source.source(row.input.clone()?)?;
     let mut out = row.sink.sink(alloc)?;
     let mut notes = row.notes.sink(alloc)?;
-    let status = run(alloc, &row.words, &mut source, &mut out, &mut notes)?;
+    let status = standard_top(alloc, &row.words, &mut source, &mut out, &mut notes)?;
     Ok(Outcome {
         status: status.code(),
         output: out.written().to_vec(alloc)?,

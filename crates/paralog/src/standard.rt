@@ -1,9 +1,8 @@
-ghost use Rattle.std.specs.Prelude.{None};
-
+//! Standard input, output and error as a source and sinks.
 use pl_base::{Failed, Sink, Source};
 use std::io::{Read, Write};
 
-/// A source over a reader, which tells no bytes and counts its faults.
+/// A source over a reader: its bytes are those that the reader has left, and a read that fails is counted.
 #[derive(Drop)]
 pub struct Reading<R: Read + Drop> {
     reader: R,
@@ -17,7 +16,7 @@ impl<R: Read + Drop> Reading<R> {
 }
 
 impl<R: Read + Drop> Source for Reading<R> {
-    ghost left = { λ _. None };
+    ghost left = { λ s. R.remaining s.reader };
 
     ghost faults = { λ s. s.faults };
 
@@ -33,7 +32,7 @@ impl<R: Read + Drop> Source for Reading<R> {
     }
 }
 
-/// A sink over a writer, which tells no bytes and counts its faults; a write that takes nothing is one.
+/// A sink over a writer: its bytes are those that the writer holds, and a write that fails or takes nothing is counted.
 #[derive(Drop)]
 pub struct Writing<W: Write + Drop> {
     writer: W,
@@ -47,7 +46,7 @@ impl<W: Write + Drop> Writing<W> {
 }
 
 impl<W: Write + Drop> Sink for Writing<W> {
-    ghost written = { λ _. None };
+    ghost written = { λ s. W.contents s.writer };
 
     ghost faults = { λ s. s.faults };
 

@@ -1,3 +1,4 @@
+//! The text of a run.
 ghost use Rattle.std.specs.Prelude.{◌≡◌, ◌+◌, ◌%◌, ◌==◌, ◌||◌, ◌<◌, ◌++◌, length, IfOk, OnOk, string_bytes};
 ghost use Rattle.core_sim.specs.declared.hart.HartEnd.TheVariants.{Fault};
 ghost use Rattle.log_text.specs.Spelling.{fault_word};

@@ -1,3 +1,4 @@
+//! How a call ended.
 /// How a call ended.
 #[derive(Clone, Copy, Debug, PartialEq, Eq)]
 pub enum Status {

@@ -1,0 +1,17 @@
+pub mod Quiet
+pub mod PlanRun
+pub mod Own
+pub mod Opening
+pub mod Steady
+pub mod Reading
+pub mod Keeping
+pub mod Putting
+pub mod Access
+pub mod Slots
+pub mod Taking
+pub mod Loading
+pub mod Turning
+pub mod Passing
+pub mod Feeding
+pub mod Ending
+pub mod Counting

@@ -1,5 +1,5 @@
 -- The operations of a load or a store.
-use Rattle.std.proofs.Common.{◌≡◌, ◌≢◌, ℕ, suc, ◌+◌, ◌/◌, ◌%◌, ◌<◌, ◌≤◌, Bool, true, false, eqb, ◌++◌, List, [], ◌∷◌, length, Option, Some, None, refl, sym, ap, ◌∙◌, subst, arith, eq-eqb, ne_eqb, if◌then◌else◌}
+use Rattle.std.proofs.Common.{◌≡◌, ◌≢◌, ℕ, suc, ◌+◌, ◌%◌, ◌<◌, ◌≤◌, Bool, true, false, eqb, ◌++◌, List, [], ◌∷◌, Option, Some, None, refl, sym, ap, ◌∙◌, subst, arith, eq-eqb, ne_eqb, if◌then◌else◌}
 use Rattle.std.proofs.Math.Logic.{∥∥₁_elim}
 use denote.Struct.Props.{props}
 use Rattle.std.specs.Prelude.{slice_get}
@@ -13,7 +13,6 @@ use Rattle.pl_event.specs.declared.event.Kind.TheVariants.{Ld, St, Op as Joins, 
 use Rattle.pl_event.specs.declared.log.Line.{Line}
 use Rattle.pl_event.specs.declared.log.Record.{Record}
 use Rattle.pl_event.specs.declared.log.Record.TheVariants as entry
-use Rattle.pl_event.specs.Alerts.{is_alert_kind}
 use Rattle.pl_event.specs.Records.{record_of, IsRecord}
 use Rattle.pl_event.specs.Runs.{IsSoundLine, IsSoundRecord}
 use Rattle.pl_event.specs.Valid.{HasValidFields}

@@ -1,5 +1,5 @@
 -- A check is counted, and passes through the filter.
-use Rattle.std.proofs.Common.{◌≡◌, ◌≢◌, ℕ, ◌+◌, ◌%◌, ◌<◌, ◌≤◌, Bool, true, false, not, List, [], ◌∷◌, Option, Some, None, refl, sym, ap, ◌∙◌, subst, arith, if◌then◌else◌}
+use Rattle.std.proofs.Common.{◌≡◌, ℕ, ◌+◌, Bool, true, false, not, List, Option, Some, None, refl, sym, ap, ◌∙◌, arith, if◌then◌else◌}
 use Rattle.pl_event.specs.declared.event.Kind.{Kind}
 use Rattle.pl_event.specs.declared.event.Kind.TheVariants.{Ld, St, Op, Mv, Im, Br, Jr, Al, Fr, Bf, Mp, Um, Rd, Wr, Ex, Ft}
 use Rattle.pl_event.specs.declared.log.Line.{Line}
@@ -17,7 +17,7 @@ use Rattle.idem_filter.specs.Filter as filter
 use Rattle.worker_laws.specs.Runs.{IsFlush, IsReach, IsRun, Run, before, flushes, flushes_in, kind_in, kind_of, reach_in, reach_of, reports_before}
 use Rattle.worker_laws.specs.Folds.{check_in, checks_at, failed, is_check, is_miss, misses_at, one_if, slots_at}
 use Rattle.worker_laws.specs.Kept.{AreCounted, IsNext, Kept, Parts}
-use Rattle.worker_laws.proofs.Slots.{hit_again, hit_passes, slots_fail, slots_pass, slots_plain}
+use Rattle.worker_laws.proofs.Slots.{hit_again, hit_passes, slots_fail, slots_pass}
 use Rattle.worker_laws.proofs.Taking.{checks_next, counted_plain, misses_next}
 
 abbrev some_check : Check → Option Check

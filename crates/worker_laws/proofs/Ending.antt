@@ -1,6 +1,6 @@
 -- A worker's start and its end.
-use Rattle.std.proofs.Common.{◌≡◌, ℕ, zero, suc, ◌+◌, ◌-◌, ◌<◌, ◌≤◌, Bool, true, false, not, ◌&&◌, eqb, List, [], ◌∷◌, length, Option, Some, None, count_by, refl, sym, ap, ◌∙◌, subst, arith, ne_eqb, if◌then◌else◌}
-use Rattle.std.specs.Prelude.{slice_index}
+use Rattle.std.proofs.Common.{◌≡◌, ℕ, zero, suc, ◌+◌, ◌-◌, ◌<◌, Bool, true, false, not, ◌&&◌, eqb, List, [], ◌∷◌, length, Option, Some, None, count_by, refl, sym, ap, ◌∙◌, arith, ne_eqb, if◌then◌else◌}
+use Rattle.std.proofs.lemmas.List.Sums.{sum_by-cons}
 use Rattle.pl_event.specs.declared.event.Kind.{Kind}
 use Rattle.pl_event.specs.declared.event.Kind.TheVariants.{Ld, St, Op, Mv, Im, Br, Jr, Al, Fr, Bf, Mp, Um, Rd, Wr, Ex, Ft}
 use Rattle.pl_event.specs.declared.log.Line.{Line}
@@ -14,17 +14,14 @@ use Rattle.lifeguard.specs.Ranges.{reports_on}
 use Rattle.lifeguard.specs.Rules.{Rules}
 use Rattle.lifeguard.specs.State.{State}
 use Rattle.order_core.specs.Course.{course_of}
-use Rattle.order_core.specs.Counts.{writes_before}
 use Rattle.order_core.proofs.Counts.{first_record}
 use Rattle.order_core.proofs.Known.{Known}
 use Rattle.order_core.proofs.Walks.{names, short}
 use Rattle.guard_table.specs.declared.view.View.{View}
-use Rattle.idem_filter.specs.declared.filter.Check.{Check}
 use Rattle.inherit_track.specs.declared.state.Held.{Held}
-use Rattle.inherit_track.specs.declared.state.RegState.{RegState}
 use Rattle.inherit_track.specs.declared.state.RegState.TheVariants as reg
 use Rattle.turn_worker.specs.Results.{checks_of, has_access, has_check}
-use Rattle.worker_laws.specs.Runs.{IsRun, Moment, Run, before, kind_in, kind_of, reach_in, reach_of, size}
+use Rattle.worker_laws.specs.Runs.{IsRun, Moment, Run, before, kind_of, reach_in, reach_of, size}
 use Rattle.worker_laws.specs.Folds.{check_in, checks_at, is_check, one_if}
 use Rattle.worker_laws.specs.Kept.{Kept, Parts, first_parts}
 use Rattle.worker_laws.proofs.Own.{after_all, first_masks, first_reports}
@@ -99,11 +96,7 @@ module _ (f : Option Line → ℕ) (h : ℕ) where
     counts (x ∷ lines) = by (counts lines) (is_of h x) refl
       where
         counted : count_by (λ (l : Line). is_of h l && g l) (x ∷ lines) ≡ one_if (is_of h x && g x) + count_by (λ (l : Line). is_of h l && g l) lines
-        counted = bit (is_of h x && g x)
-          where
-            bit : (b : Bool) → (if b then suc (count_by (λ (l : Line). is_of h l && g l) lines) else count_by (λ (l : Line). is_of h l && g l) lines) ≡ one_if b + count_by (λ (l : Line). is_of h l && g l) lines
-            bit true = omega arith
-            bit false = omega arith
+        counted = sum_by-cons (λ (l : Line). if is_of h l && g l then 1 else 0) x lines
 
         by : total lines (records_before h lines (length lines)) ≡ count_by (λ (l : Line). is_of h l && g l) lines → (b : Bool) → is_of h x ≡ b → total (x ∷ lines) ((if is_of h x then 1 else 0) + records_before h lines (length lines)) ≡ count_by (λ (l : Line). is_of h l && g l) (x ∷ lines)
         by deep true e =

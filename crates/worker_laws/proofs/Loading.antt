@@ -1,5 +1,5 @@
 -- A load or a store is taken.
-use Rattle.std.proofs.Common.{◌≡◌, ◌≢◌, ℕ, ◌+◌, ◌-◌, ◌*◌, ◌/◌, ◌%◌, ◌<◌, ◌≤◌, ◌⊎◌, inl, inr, List, [], ◌∷◌, Option, Some, None, refl, sym, ap, ◌∙◌, subst, arith}
+use Rattle.std.proofs.Common.{◌≡◌, ◌≢◌, ℕ, ◌+◌, ◌-◌, ◌*◌, ◌/◌, ◌%◌, ◌<◌, ◌≤◌, ◌⊎◌, inl, inr, List, [], Some, None, refl, sym, ap, ◌∙◌, subst, arith}
 use Rattle.std.proofs.Math.Logic.{∥∥₁_elim}
 use denote.Struct.Props.{props}
 use Rattle.std.specs.Prelude.{bit_xor, slice_get}
@@ -20,7 +20,7 @@ use Rattle.order_core.specs.Core.{IsNextWrite}
 use Rattle.order_core.specs.Course.{At, course_of, operation_of}
 use Rattle.order_core.specs.Lawful.{IsLawful}
 use Rattle.order_core.specs.Lanes.{HasValueOf, Meets}
-use Rattle.order_core.specs.Shapes.{Shape, fill}
+use Rattle.order_core.specs.Shapes.{Shape}
 use Rattle.order_core.specs.Turns.{HasComeTo}
 use Rattle.order_core.proofs.Known.{Known}
 use Rattle.guard_table.specs.declared.put.Put.TheVariants.{Flip, Store}
@@ -32,8 +32,8 @@ use Rattle.inherit_track.specs.declared.state.RegState.{RegState}
 use Rattle.inherit_track.specs.declared.state.RegState.TheVariants as reg
 use Rattle.inherit_track.specs.States.{LiesIn, with_state}
 use Rattle.shadow_frames.specs.Words.{WordsRepresent}
-use Rattle.worker_laws.specs.Runs.{IsFlush, IsKind, IsRun, Run, before, masks_before, reach_in, size}
-use Rattle.worker_laws.specs.Reads.{AreRight, IsHeld, directory_of, directory_read, load_in, stored_word, value_at, value_read, value_write}
+use Rattle.worker_laws.specs.Runs.{IsFlush, IsKind, IsRun, Run, before, reach_in}
+use Rattle.worker_laws.specs.Reads.{IsHeld, directory_of, load_in, stored_word, value_at, value_read, value_write}
 use Rattle.worker_laws.specs.Kept.{AreCounted, AreFound, HasTaken, IsNext, Kept, Parts}
 use Rattle.worker_laws.proofs.Access as access
 use Rattle.worker_laws.proofs.Keeping.{IsRight, calm, lasts_now, right_next, right_same, right_set, right_wrote}

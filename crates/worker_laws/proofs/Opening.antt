@@ -1,12 +1,12 @@
 -- Reads that a hart may make: when it comes to them, and after what it does meanwhile.
-use Rattle.std.proofs.Common.{◌≡◌, ℕ, zero, suc, ◌+◌, ◌<◌, ◌≤◌, true, false, List, [], ◌∷◌, Some, None, get_or, set, refl, sym, ap, ◌∙◌, subst, arith}
+use Rattle.std.proofs.Common.{◌≡◌, ℕ, zero, suc, ◌+◌, ◌<◌, ◌≤◌, true, false, List, [], ◌∷◌, None, get_or, set, refl, sym, ◌∙◌, subst, arith}
 use Rattle.std.specs.Prelude.{slice_get, slice_index}
 use Rattle.order_core.specs.declared.course.Course.{Course}
 use Rattle.order_core.specs.declared.course.Op.{Op}
 use Rattle.order_core.specs.declared.course.Operation.{Operation}
 use Rattle.order_core.specs.Core.{IsMet, IsNextWrite, IsOpen, IsPassed, put}
 use Rattle.order_core.specs.Counts.{writes_before}
-use Rattle.order_core.specs.Course.{At, IsListed, course_of, operation_of, rank, length_of}
+use Rattle.order_core.specs.Course.{IsListed, course_of, operation_of, length_of}
 use Rattle.order_core.specs.Lanes.{Meets}
 use Rattle.order_core.specs.Turns.{HasComeTo}
 use Rattle.order_core.proofs.Counts.{next_record, no_more, once}

@@ -1,5 +1,5 @@
 -- From a record of a hart to its next, what the lines of other harts leave.
-use Rattle.std.proofs.Common.{◌≡◌, ◌≢◌, ◌==◌, ℕ, zero, suc, ◌+◌, ◌-◌, ◌<◌, ◌≤◌, List, [], ◌∷◌, ◌++◌, Bool, true, false, filter, length, take, cond, Option, Some, None, refl, sym, ap, ◌∙◌, subst, arith, add-one, eq-eqb, lt_of_not-le, append-nil, if◌then◌else◌}
+use Rattle.std.proofs.Common.{◌≡◌, ◌≢◌, ◌==◌, ℕ, zero, suc, ◌+◌, ◌-◌, ◌<◌, ◌≤◌, List, [], ◌∷◌, ◌++◌, Bool, true, false, length, take, cond, Option, Some, None, refl, sym, ap, ◌∙◌, subst, arith, add-one, eq-eqb, lt_of_not-le, if◌then◌else◌}
 use mathlib.Core.Option.{some}
 use mathlib.Core.Logic.{dite}
 use native.Mathlib.Decide.{dec_le}
@@ -15,13 +15,13 @@ use Rattle.pl_event.specs.Numbers.{hart_of, events_of, events_on}
 use Rattle.pl_event.specs.Records.{line_number, record_of, records_before, IsRecord}
 use Rattle.pl_event.proofs.Before.{with_event, one_more, on_own}
 use Rattle.pl_event.proofs.MappedPages.{line_at}
-use Rattle.pl_event.proofs.Places.{line_number_next, line_number_of, line_number_zero, line_number_after, inside, record_at}
-use Rattle.pl_event.proofs.Sources.{at_position, found}
+use Rattle.pl_event.proofs.Places.{line_number_next, line_number_of, line_number_zero, line_number_after}
+use Rattle.pl_event.proofs.Sources.{at_position}
 use Rattle.lifeguard.specs.declared.report.EventPlace.{EventPlace}
 use Rattle.lifeguard.specs.declared.report.Report.{Report}
 use Rattle.lifeguard.specs.declared.report.ReportKind.{ReportKind}
 use Rattle.lifeguard.specs.declared.report.ReportKind.TheVariants as report
-use Rattle.lifeguard.specs.Plain.{bad_sent, bad_touch, is_taint, marked_register, masks_after, misdeed, misdeed_report, misdeeds, place_after, plain_result, register_report, reported, reports_of, rule}
+use Rattle.lifeguard.specs.Plain.{bad_sent, bad_touch, is_taint, marked_register, masks_after, misdeed, misdeed_report, misdeeds, place_after, register_report, reported, reports_of, rule}
 use Rattle.lifeguard.specs.Ranges.{reports_on}
 use Rattle.lifeguard.specs.Rules.{Rules}
 use Rattle.lifeguard.specs.State.{State}

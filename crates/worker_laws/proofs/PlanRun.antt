@@ -1,5 +1,5 @@
 -- The plan of a log beside its plain run.
-use Rattle.std.proofs.Common.{◌≡◌, ℕ, zero, suc, ◌+◌, ◌^◌, ◌<◌, ◌≤◌, List, [], ◌∷◌, ◌++◌, length, take, Option, Some, None, slice_get, slice_index, refl, sym, ap, ◌∙◌, subst, arith, append-nil, lt_of_not-le}
+use Rattle.std.proofs.Common.{◌≡◌, ℕ, zero, suc, ◌+◌, ◌^◌, ◌<◌, ◌≤◌, List, [], ◌∷◌, ◌++◌, length, take, Option, Some, None, slice_get, refl, sym, ap, ◌∙◌, subst, arith, append-nil, lt_of_not-le}
 use Rattle.std.proofs.Math.Logic.{∥∥₁_elim, ∥∥₁_map}
 use denote.Struct.Props.{props}
 use mathlib.Core.Option.{some, some-injective, some-ne-none}
@@ -7,32 +7,29 @@ use mathlib.Core.Logic.{dite}
 use native.Mathlib.Decide.{dec_le}
 use lib.ListN.{get_elem?}
 use Rattle.std.proofs.lemmas.List.Elements.{filter_map-append}
-use Rattle.pl_event.specs.declared.event.Event.{Event}
 use Rattle.pl_event.specs.declared.log.Line.{Line}
 use Rattle.pl_event.specs.declared.log.Log.{Log}
 use Rattle.pl_event.specs.declared.log.Record.{Record}
 use Rattle.pl_event.specs.declared.log.Record.TheVariants as entry
 use Rattle.pl_event.specs.Numbers.{event_of, events_of}
-use Rattle.pl_event.specs.Records.{line_number, IsRecord}
+use Rattle.pl_event.specs.Records.{IsRecord}
 use Rattle.pl_event.specs.Runs.{IsRunLog}
 use Rattle.pl_event.proofs.MappedPages.{take_next}
 use Rattle.pl_event.proofs.Places.{line_number_of}
 use Rattle.lifeguard.specs.Rules.{Rules, KeepsLaws}
-use Rattle.lifeguard.specs.State.{State}
 use Rattle.lifeguard.specs.Plain.{plain_result}
 use Rattle.lifeguard.proofs.PlainLemmas.{plain_result-last}
 use Rattle.lifeguard.proofs.RangeLemmas.{plain_in_range}
-use Rattle.order_core.specs.declared.course.Op.{Op}
-use Rattle.order_core.specs.Course.{IsListed, course_of}
+use Rattle.order_core.specs.Course.{course_of}
 use Rattle.order_core.specs.Filled.{operations_at, words_after}
 use Rattle.order_core.specs.Lawful.{IsLawful}
-use Rattle.order_core.specs.Shapes.{Shape, fill, after_shapes}
+use Rattle.order_core.specs.Shapes.{fill, after_shapes}
 use Rattle.shadow_frames.specs.Words.{WordsRepresent}
 use Rattle.shadow_layout.specs.Logs.{line_shapes, log_shapes, record_shapes, state_before}
 use Rattle.shadow_layout.proofs.LogLemmas as moments
 use Rattle.log_plan.specs.Plans.{opening_list, plan_of}
 use Rattle.log_plan.proofs.PlanLemmas as plans
-use Rattle.worker_laws.specs.Runs.{Moment, Run, IsRun, state_after}
+use Rattle.worker_laws.specs.Runs.{Moment, IsRun, state_after}
 use Rattle.worker_laws.specs.LogRuns.{log_run, moment_at}
 
 line_is : (lines : List Line) (i : ℕ) (line : Line) → get_elem? lines i ≡ some line → slice_get lines i ≡ Some line

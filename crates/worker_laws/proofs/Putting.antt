@@ -1,5 +1,5 @@
 -- What a store puts in its word.
-use Rattle.std.proofs.Common.{◌≡◌, ◌≢◌, ℕ, zero, suc, ◌+◌, ◌*◌, ◌/◌, ◌%◌, ◌^◌, ◌<◌, ◌≤◌, true, false, List, [], ◌∷◌, ◌++◌, length, Option, Some, None, refl, sym, ap, ◌∙◌, subst, arith, add-one}
+use Rattle.std.proofs.Common.{◌≡◌, ℕ, zero, suc, ◌+◌, ◌*◌, ◌/◌, ◌%◌, ◌^◌, ◌<◌, ◌≤◌, true, false, List, [], ◌∷◌, ◌++◌, length, Option, Some, None, refl, sym, ap, ◌∙◌, subst, arith, add-one}
 use Rattle.std.proofs.Math.Logic.{∥∥₁_elim}
 use denote.Struct.Props.{props}
 use Rattle.std.specs.Prelude.{slice_get, slice_index}
@@ -13,7 +13,7 @@ use Rattle.pl_base.specs.declared.widths.StoreWidth.{StoreWidth}
 use Rattle.pl_base.specs.Widths.{store_bytes}
 use Rattle.pl_event.specs.declared.log.Line.{Line}
 use Rattle.pl_event.specs.Numbers.{hart_of}
-use Rattle.pl_event.specs.Records.{records_before, IsRecord}
+use Rattle.pl_event.specs.Records.{records_before}
 use Rattle.pl_event.proofs.Places.{record_at}
 use Rattle.lifeguard.specs.Plain.{mask_bit}
 use Rattle.lifeguard.specs.Rules.{Rules}
@@ -30,7 +30,7 @@ use Rattle.order_core.proofs.Walks.{names, short}
 use Rattle.guard_table.specs.Puts.{IsPutOf}
 use Rattle.guard_table.specs.declared.put.Put.TheVariants.{Flip, Store}
 use Rattle.shadow_frames.specs.Words.{nibble_of}
-use Rattle.shadow_layout.specs.Operations.{changed_word, in_block, lanes_of}
+use Rattle.shadow_layout.specs.Operations.{in_block, lanes_of}
 use Rattle.shadow_layout.proofs.LaneLemmas.{put_sound}
 use Rattle.shadow_layout.proofs.NibbleLemmas.{changed_nibble}
 use Rattle.worker_laws.specs.Runs.{IsRun, Run, size}

@@ -1,17 +1,14 @@
 -- A hart that is told of nothing between two of its records has no alert event of another hart between them.
-use Rattle.std.proofs.Common.{◌≡◌, ◌≢◌, ℕ, ◌+◌, ◌<◌, ◌≤◌, Bool, true, false, List, length, refl, sym, ap, ◌∙◌, subst, inl, arith, lt_of_not-le}
+use Rattle.std.proofs.Common.{◌≡◌, ◌≢◌, ℕ, ◌+◌, ◌<◌, ◌≤◌, Bool, true, false, List, length, ◌∙◌, subst, inl, arith, lt_of_not-le}
 use Rattle.std.specs.Prelude.{IsTrue}
 use Rattle.std.specs.Bool.{MatchBool}
-use mathlib.Core.Option.{some}
 use mathlib.Core.Logic.{dite}
-use native.Mathlib.Decide.{ℕ_discrete, dec_le}
-use lib.ListN.{get_elem?}
+use native.Mathlib.Decide.{dec_le}
 use Rattle.pl_event.specs.declared.event.Event.{Event}
 use Rattle.pl_event.specs.declared.log.Line.{Line}
 use Rattle.pl_event.specs.Alerts.{is_alert_kind}
 use Rattle.pl_event.specs.Conflicts.{AreOrdered, IsConcerned, HasNotice, IsPair}
 use Rattle.pl_event.specs.Edges.{IsFlow, IsNotice}
-use Rattle.pl_event.specs.Numbers.{hart_of}
 use Rattle.pl_event.specs.Records.{IsEvent, IsRecord, records_before}
 use Rattle.pl_event.proofs.Places.{before_up, before_own, record_at, inside}
 

@@ -1,12 +1,12 @@
 -- What a read tells, and which writes leave it.
-use Rattle.std.proofs.Common.{◌≡◌, ◌≢◌, ◌==◌, ℕ, zero, suc, ◌+◌, ◌-◌, ◌*◌, ◌/◌, ◌%◌, ◌^◌, ◌<◌, ◌≤◌, ◌⊎◌, Bool, true, false, eqb, inl, inr, Option, Some, unwrap_or, refl, sym, ap, ◌∙◌, arith, if◌then◌else◌}
+use Rattle.std.proofs.Common.{◌≡◌, ◌≢◌, ◌==◌, ℕ, zero, suc, ◌+◌, ◌-◌, ◌*◌, ◌/◌, ◌%◌, ◌^◌, ◌<◌, ◌≤◌, Bool, true, false, eqb, inl, inr, Option, Some, unwrap_or, refl, sym, ap, ◌∙◌, arith, if◌then◌else◌}
 use mathlib.Core.Logic.{dite}
 use native.Mathlib.Decide.{ℕ_discrete}
 use Rattle.pl_base.specs.declared.widths.LoadWidth.{LoadWidth}
 use Rattle.pl_base.specs.declared.widths.LoadWidth.TheVariants as load
 use Rattle.pl_base.specs.Widths.{load_bytes}
 use Rattle.pl_event.specs.Runs.{IsBlockSize}
-use Rattle.lifeguard.specs.Plain.{load_bits, loaded_mask}
+use Rattle.lifeguard.specs.Plain.{loaded_mask}
 use Rattle.lifeguard.specs.Rules.{Rules}
 use Rattle.lifeguard.specs.State.{Bytes, nibble_at}
 use Rattle.order_core.specs.declared.course.Op.{Op}

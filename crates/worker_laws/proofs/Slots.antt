@@ -1,17 +1,14 @@
 -- A check that the filter holds passes, and what the filter holds after one more record.
-use Rattle.std.proofs.Common.{◌≡◌, ◌≢◌, ◌==◌, ℕ, zero, suc, ◌+◌, ◌/◌, ◌%◌, ◌≤◌, ◌⊎◌, inl, inr, Bool, true, false, not, eqb, ◌&&◌, List, [], ◌∷◌, replicate, Option, Some, None, find, refl, sym, ap, ◌∙◌, subst, arith, add-one, eq-eqb, ne_eqb, if◌then◌else◌}
+use Rattle.std.proofs.Common.{◌≡◌, ℕ, zero, suc, ◌+◌, ◌≤◌, ◌⊎◌, inl, inr, Bool, true, false, eqb, ◌&&◌, [], ◌∷◌, replicate, Option, Some, None, find, refl, sym, ap, ◌∙◌, subst, arith, add-one, if◌then◌else◌}
 use Rattle.std.specs.Prelude.{slice_index_or, slice_set}
-use mathlib.Core.Logic.{dite}
 use mathlib.Core.Path.{fun_ext}
-use native.Mathlib.Decide.{ℕ_discrete}
 use Rattle.pl_event.specs.declared.log.Line.{Line}
 use Rattle.pl_event.specs.Records.{record_of}
 use Rattle.pl_event.proofs.Places.{eqb_is}
-use Rattle.lifeguard.specs.Plain.{is_taint}
 use Rattle.lifeguard.specs.State.{span}
 use Rattle.idem_filter.specs.declared.filter.Check.{Check}
 use Rattle.idem_filter.specs.Filter as filter
-use Rattle.worker_laws.specs.Runs.{Moment, Run, IsFlush, IsReach, IsRun, Lasts, before, flushes_in, kind_in, reach_in, size}
+use Rattle.worker_laws.specs.Runs.{Run, IsFlush, IsReach, IsRun, Lasts, before, flushes_in, size}
 use Rattle.worker_laws.specs.Folds.{check_in, checked, entered_if, failed, slots_after, slots_at}
 use Rattle.worker_laws.proofs.Keeping.{lasts_next, lasts_now, some_is}
 use Rattle.worker_laws.proofs.Steady.{access_lasts}

@@ -1,5 +1,5 @@
 -- What stays from a record of a hart up to a later load or store of it, where nothing is flushed in between.
-use Rattle.std.proofs.Common.{◌≡◌, ◌≢◌, ℕ, zero, suc, ◌+◌, ◌-◌, ◌<◌, ◌≤◌, Bool, true, false, inl, List, length, take, Option, Some, None, unwrap_or, option_map, refl, sym, ap, ◌∙◌, subst, arith, lt_of_not-le, if◌then◌else◌}
+use Rattle.std.proofs.Common.{◌≡◌, ◌≢◌, ℕ, zero, suc, ◌+◌, ◌-◌, ◌<◌, ◌≤◌, Bool, true, false, inl, List, length, Option, Some, None, unwrap_or, option_map, refl, sym, ap, ◌∙◌, subst, arith, lt_of_not-le, if◌then◌else◌}
 use Rattle.std.proofs.Math.Logic.{∥∥₁_elim}
 use denote.Struct.Props.{props}
 use mathlib.Core.Option.{some, some-injective}
@@ -15,20 +15,18 @@ use Rattle.pl_event.specs.declared.log.Record.{Record}
 use Rattle.pl_event.specs.declared.log.Record.TheVariants as entry
 use Rattle.pl_event.specs.Alerts.{is_alert_kind}
 use Rattle.pl_event.specs.Conflicts.{IsConcerned}
-use Rattle.pl_event.specs.Numbers.{events_of, hart_of}
+use Rattle.pl_event.specs.Numbers.{hart_of}
 use Rattle.pl_event.specs.Records.{line_number, records_before, IsRecord}
 use Rattle.pl_event.proofs.MappedPages.{line_at}
 use Rattle.pl_event.proofs.Places.{line_number_of, record_at, before_up, before_own, inside}
 use Rattle.pl_event.proofs.Sources.{found}
-use Rattle.lifeguard.specs.Plain.{bytes_after, mask_bit, place_after, rule, stored}
+use Rattle.lifeguard.specs.Plain.{bytes_after, mask_bit, rule, stored}
 use Rattle.lifeguard.specs.Ranges.{AreNibbles}
 use Rattle.lifeguard.specs.Rules.{Rules, KeepsLaws}
 use Rattle.lifeguard.specs.State.{Bytes, State, changed, is_in, nibble_at}
 use Rattle.order_core.specs.Course.{course_of}
 use Rattle.order_core.specs.Lawful.{IsLawful}
-use Rattle.order_core.specs.Shapes.{after_shapes}
 use Rattle.idem_filter.specs.declared.filter.Check.{Check}
-use Rattle.shadow_layout.specs.Logs.{record_shapes}
 use Rattle.log_plan.specs.inner.Serving.{is_mapping, maps}
 use Rattle.log_plan.proofs.LowWords.{record_low}
 use Rattle.worker_laws.specs.Runs.{Moment, Run, IsRun, IsFlush, IsQuiet, IsReach, Lasts, before, flushes, flushes_in, kind_in, kind_of, reach_in, reach_of, size, state_after}

@@ -1,21 +1,12 @@
 -- What is kept, from record to record.
-use Rattle.std.proofs.Common.{◌≡◌, ◌≢◌, ◌==◌, ℕ, zero, suc, ◌+◌, ◌*◌, ◌/◌, ◌%◌, ◌<◌, ◌≤◌, ◌⊎◌, inl, inr, Bool, true, false, eqb, List, [], ◌∷◌, Option, Some, None, refl, sym, ap, ◌∙◌, subst, arith, add-one, if◌then◌else◌}
-use Rattle.std.proofs.Math.Logic.{∥∥₁_elim}
-use denote.Struct.Props.{props}
-use Rattle.std.specs.Prelude.{replicate, slice_get, slice_index, slice_index_or}
-use mathlib.Core.Logic.{dite}
-use mathlib.Core.Path.{fun_ext}
-use native.Mathlib.Decide.{ℕ_discrete}
+use Rattle.std.proofs.Common.{◌≡◌, ℕ, zero, suc, ◌+◌, ◌<◌, ◌≤◌, Bool, true, false, List, Option, Some, None, refl, sym, ap, ◌∙◌, arith, add-one, if◌then◌else◌}
+use Rattle.std.specs.Prelude.{replicate, slice_get, slice_index_or}
 use Rattle.pl_base.specs.declared.widths.LoadWidth.{LoadWidth}
 use Rattle.pl_base.specs.declared.widths.LoadWidth.TheVariants as load
-use Rattle.pl_base.specs.declared.widths.StoreWidth.{StoreWidth}
-use Rattle.pl_base.specs.Widths.{load_bytes, store_bytes}
 use Rattle.pl_event.specs.declared.event.Kind.{Kind}
-use Rattle.pl_event.specs.declared.event.Kind.TheVariants.{Ld, St, Op as Joins, Mv, Im, Br, Jr, Al, Fr, Bf, Mp, Um, Rd, Wr, Ex, Ft}
-use Rattle.pl_event.specs.declared.log.Line.{Line}
+use Rattle.pl_event.specs.declared.event.Kind.TheVariants.{Op as Joins, Mv, Im, Br, Jr, Bf, Ex, Ft}
 use Rattle.pl_event.specs.Alerts.{is_alert_kind}
-use Rattle.pl_event.specs.Records.{line_number, record_of, IsRecord}
-use Rattle.pl_event.specs.Runs.{IsBlockSize}
+use Rattle.pl_event.specs.Records.{record_of}
 use Rattle.lifeguard.specs.declared.guard.Name.TheVariants as name
 use Rattle.lifeguard.specs.declared.report.Report.{Report}
 use Rattle.pl_base.specs.declared.widths.FaultCause.{FaultCause}
@@ -23,36 +14,29 @@ use Rattle.lifeguard.specs.Plain.{is_taint, loaded_mask}
 use Rattle.lifeguard.specs.Rules.{Rules, KeepsLaws}
 use Rattle.lifeguard.specs.State.{Bytes, nibble_at}
 use Rattle.order_core.specs.declared.course.Op.{Op}
-use Rattle.order_core.specs.Core.{IsPassed}
-use Rattle.order_core.specs.Course.{course_of, operation_of}
-use Rattle.order_core.specs.Lawful.{IsLawful}
-use Rattle.order_core.specs.Lanes.{Meets}
+use Rattle.order_core.specs.Course.{course_of}
 use Rattle.order_core.specs.Shapes.{fill}
 use Rattle.order_core.specs.Turns.{HasComeTo}
 use Rattle.shadow_layout.specs.Operations.{shapes}
 use Rattle.order_core.proofs.Known.{Known}
 use Rattle.guard_table.specs.declared.view.View.{View}
-use Rattle.guard_table.specs.Views.{known_core, wrote}
+use Rattle.guard_table.specs.Views.{known_core}
 use Rattle.idem_filter.specs.declared.filter.Check.{Check}
 use Rattle.idem_filter.specs.Filter as filter
-use Rattle.inherit_track.specs.declared.state.Held.{Held}
 use Rattle.inherit_track.specs.declared.state.RegState.{RegState}
 use Rattle.inherit_track.specs.declared.state.RegState.TheVariants as reg
-use Rattle.inherit_track.specs.States.{LiesIn, with_state}
+use Rattle.inherit_track.specs.States.{with_state}
 use Rattle.meta_lookaside.specs.declared.look_aside.Entry.{Entry}
 use Rattle.meta_lookaside.specs.LookAside as look
-use Rattle.shadow_frames.specs.Words.{WordsRepresent, directory_word}
-use Rattle.worker_laws.specs.Runs.{Moment, Run, IsFlush, IsKind, IsReach, IsRun, Lasts, before, kind_in, masks_before, reach_in, reach_of, reports_before, size}
-use Rattle.worker_laws.specs.Reads.{AreRight, IsHeld, directory_of, directory_read, value_at, value_read, value_write}
+use Rattle.shadow_frames.specs.Words.{directory_word}
+use Rattle.worker_laws.specs.Runs.{Run, IsFlush, IsKind, IsRun, before, kind_in, masks_before, reach_in, reach_of, reports_before, size}
+use Rattle.worker_laws.specs.Reads.{AreRight}
 use Rattle.worker_laws.specs.Folds.{check_in, checks_at, is_check, is_miss, misses_at, one_if, slots_at}
 use Rattle.worker_laws.specs.Kept.{AreCounted, AreFound, HasTaken, IsNext, Kept, Parts}
-use Rattle.worker_laws.proofs.Access as access
-use Rattle.worker_laws.proofs.Keeping.{IsRight, all_right, are_right, calm, lasts_next, lasts_now, operations_are, right_known, right_next, right_same, right_set, right_wrote}
-use Rattle.worker_laws.proofs.Opening.{all_made, come_wrote, next_write, passed}
+use Rattle.worker_laws.proofs.Keeping.{all_right, calm, lasts_next, operations_are, right_next, right_same, right_set}
+use Rattle.worker_laws.proofs.Opening.{all_made}
 use Rattle.worker_laws.proofs.Own.{event_masks}
-use Rattle.worker_laws.proofs.Reading.{store_meets, store_misses}
 use Rattle.worker_laws.proofs.Slots.{slots_flushed, slots_plain}
-use Rattle.worker_laws.proofs.Steady.{directory_lasts, nibble_below}
 
 abbrev no_entry : Option Entry
 no_entry = None

@@ -1,5 +1,5 @@
 -- Notices, alert events, looks, advertisements, late reads, and what the look-aside finds.
-use Rattle.std.proofs.Common.{◌≡◌, ◌≢◌, ◌==◌, ℕ, zero, suc, ◌+◌, ◌-◌, ◌/◌, ◌%◌, ◌^◌, ◌<◌, ◌≤◌, ◌⊎◌, inl, inr, Bool, true, false, eqb, List, [], ◌∷◌, length, Option, Some, None, refl, sym, ap, ◌∙◌, subst, arith, if◌then◌else◌}
+use Rattle.std.proofs.Common.{◌≡◌, ℕ, zero, suc, ◌+◌, ◌-◌, ◌^◌, ◌<◌, ◌≤◌, ◌⊎◌, inl, inr, Bool, true, false, eqb, List, [], ◌∷◌, Option, Some, None, refl, sym, ap, ◌∙◌, arith, if◌then◌else◌}
 use Rattle.std.proofs.Math.Logic.{∥∥₁_elim}
 use denote.Struct.Props.{props}
 use Rattle.std.specs.Prelude.{slice_get, slice_index, slice_index_or, slice_set}
@@ -31,14 +31,13 @@ use Rattle.inherit_track.specs.declared.state.Held.{Held}
 use Rattle.inherit_track.specs.declared.state.RegState.{RegState}
 use Rattle.inherit_track.specs.declared.state.RegState.TheVariants as reg
 use Rattle.inherit_track.specs.States.{IsResolved, with_state}
-use Rattle.meta_lookaside.specs.declared.look_aside.Entry.{Entry}
 use Rattle.meta_lookaside.specs.LookAside as look
 use Rattle.shadow_frames.specs.Words.{WordsRepresent, directory_word}
 use Rattle.shadow_layout.specs.Logs.{record_shapes}
 use Rattle.worker_laws.specs.Runs.{IsFlush, IsKind, IsReach, IsRun, Lasts, Run, before, flushes, flushes_in, kind_in, kind_of, masks_before, reach_in, reach_of, reports_before, size}
-use Rattle.worker_laws.specs.Reads.{IsHeld, MayReadNow, directory_of, directory_read, mask_in, value_at, value_read}
-use Rattle.worker_laws.specs.Kept.{AreCounted, AreFound, HasTaken, IsNext, Kept, Parts}
-use Rattle.worker_laws.proofs.Keeping.{calm, lasts_now, right_advertised, right_known, right_learnt, right_looked, right_resolved, right_same, right_set}
+use Rattle.worker_laws.specs.Reads.{IsHeld, directory_of, directory_read, mask_in, value_read}
+use Rattle.worker_laws.specs.Kept.{AreFound, IsNext, Kept, Parts}
+use Rattle.worker_laws.proofs.Keeping.{lasts_now, right_advertised, right_known, right_learnt, right_looked, right_resolved, right_same, right_set}
 use Rattle.worker_laws.proofs.Opening.{passed, raised}
 use Rattle.worker_laws.proofs.Own.{event_masks, notice_masks, notice_reports}
 use Rattle.worker_laws.proofs.Reading.{mask_read, whole_word}

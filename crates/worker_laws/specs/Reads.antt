@@ -23,7 +23,7 @@ use Rattle.guard_table.specs.Views.{known_core}
 use Rattle.shadow_frames.specs.Frames.{reads, reads_lanes, writes_lanes}
 use Rattle.shadow_frames.specs.Words.{nibble_of}
 use Rattle.shadow_layout.specs.Operations.{block_directory, block_word, changed_word, lanes_of}
-use Rattle.worker_laws.specs.Runs.{Run, Moment, before, masks_before, kind_in, Lasts}
+use Rattle.worker_laws.specs.Runs.{Run, before, masks_before, kind_in, Lasts}
 
 -- the directory's word of the page of an address
 abbrev pub directory_of : ℕ → ℕ

@@ -112,16 +112,17 @@ pub fn loads_keep()
         → loaded_mask p.rules width (p.moment m).state.bytes addr ≡ 0 }
 {}
 
-/// A store on a mapped page is the hart's next write. It puts what becomes of the word that the read of its value found,
-/// whole where blocks have 16 bytes, or else by the bits that differ. It is taken where no held load lies in its block.
-/// One on another page, or under an address check, writes nothing.
+/// A store on a mapped page is the hart's next write. It puts what becomes of the word that the read of its value
+/// found, whole where blocks have 16 bytes, or else by the bits that differ. It is taken where no held load lies in its
+/// block. One on another page, or under an address check, writes nothing.
 pub fn stores_keep()
     ensures write { (p : Run) (h n rv rb addr : ℕ) (width : StoreWidth) (v : View) (parts : Parts)
         → IsReady p h v n parts → IsKind p h (n + 1) (St width rv rb addr) → p.rules.name ≢ name.Addr
         → let q = before p h (n + 1) in q.words (directory_of addr) ≢ 0
-        → let o = value_write p.plan.log.block q.words addr (stored_word p.rules (q.state.masks h rv) width addr) in
-        let i = value_at p.rules.name + 1 in
-        (at : ℕ) × IsNextWrite (course_of p.plan) (known_core v) h at (operation_of h (n + 1) i o) }
+        → let s = stored_word p.rules (q.state.masks h rv) width addr in
+        let o = value_write p.plan.log.block q.words addr s in
+        let a = operation_of h (n + 1) (value_at p.rules.name + 1) o in
+        (at : ℕ) × IsNextWrite (course_of p.plan) (known_core v) h at a }
     ensures store { (p : Run) (h n rv rb addr x at : ℕ) (width : StoreWidth) (v : View) (parts : Parts)
         → IsReady p h v n parts → IsKind p h (n + 1) (St width rv rb addr) → p.rules.name ≢ name.Addr
         → let q = before p h (n + 1) in q.words (directory_of addr) ≢ 0

@@ -85,7 +85,10 @@ impl Filler {
         let map = self.read_map()?;
         match free_frame(&map) {
             None => Err(NoMemory),
-            Some(frame) => self.place_page(page, frame as u32, filling),
+            Some(frame) => {
+                self.place_page(page, frame as u32, filling)?;
+                Ok(())
+            }
         }
     }
 
@@ -95,10 +98,13 @@ impl Filler {
         ensures { OnOk result (Fills self.old self.new (shapes.unmap_page (words_of self.old) page)) }
     {
         let directory = self.read(DIRECTORY_START + page, 15, false)?;
-        let frame = less(directory, 1) as u32;
+        let before = less(directory, 1);
+        let frame = before as u32;
         let map = FRAME_MAP_START + frame / 64;
         let bits = self.read(map, 15, false)?;
-        self.write(map, 15, less(bits, power(frame % 64)))?;
+        let bit = power(frame % 64);
+        let cleared = less(bits, bit);
+        self.write(map, 15, cleared)?;
         self.write(DIRECTORY_START + page, 15, 0)?;
         Ok(())
     }

@@ -59,8 +59,8 @@ rise_prop from [] = hlevel props
 rise_prop from (run ∷ runs) = let rest : IsProp (RiseFrom (run.first + run.count) runs) = rise_prop (run.first + run.count) runs in hlevel (props, rest)
 
 pub all_inside : (from : ℕ) (runs : List PageRun) → RiseFrom from runs → All (λ (run : PageRun). run.first + run.count ≤ 4096) runs
-all_inside from [] r = All-nil _
-all_inside from (run ∷ runs) r = All-cons _ run runs r.0.3 (all_inside (run.first + run.count) runs r.2)
+all_inside from [] r = All-nil (λ (run : PageRun). run.first + run.count ≤ 4096)
+all_inside from (run ∷ runs) r = All-cons (λ (run : PageRun). run.first + run.count ≤ 4096) run runs r.0.3 (all_inside (run.first + run.count) runs r.2)
 
 -- ---- room
 

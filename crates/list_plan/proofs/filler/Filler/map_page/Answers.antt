@@ -17,4 +17,4 @@ pub returns-in_ok-place_page-in-Some : goal.returns-in_ok-place_page-in-Some
 returns-in_ok-place_page-in-Some c =
     let e = frame_is (words_of c.args.self.now) c.in-Some.frame c.free_frame.result c.in-Some.is (c.free_frame.ensures (words_of c.args.self.now) c.in_ok-map.ensures.words) in
     maps_page c.args.self.now c.read_map.new.self c.place_page.new.self c.args.filling c.args.page c.in_ok-map.ensures.fills
-    (subst (λ (f : ℕ). Fills c.read_map.new.self c.place_page.new.self (placed f c.args.page c.args.filling)) e c.in_ok-place_page.ensures)
+    (subst (λ (f : ℕ). Fills c.read_map.new.self c.place_page.new.self (placed f c.args.page c.args.filling)) e c.in_ok-place_page-in-Some.ensures)

@@ -1,23 +1,19 @@
 -- Lists that have the records of a plan make the same course.
-use Rattle.std.proofs.Common.{◌≡◌, ℕ, zero, suc, ◌+◌, ◌-◌, ◌<◌, ◌≤◌, List, [], ◌∷◌, ◌++◌, length, slice_get, Option, Some, None, Vec, Global, refl, sym, ap, ◌∙◌, subst, arith}
+use Rattle.std.proofs.Common.{◌≡◌, ℕ, zero, suc, ◌+◌, ◌-◌, ◌<◌, ◌≤◌, List, [], ◌∷◌, ◌++◌, length, slice_get, Some, Vec, Global, refl, sym, ap, ◌∙◌, subst, arith}
 use Rattle.std.proofs.Math.Logic.{∥∥₁_elim}
 use denote.Struct.Props.{props}
-use mathlib.Core.Logic.{dite}
 use mathlib.Core.Option.{some}
 use lib.ListN.{get_elem?}
-use native.Mathlib.Decide.{dec_le}
 use Rattle.pl_event.specs.declared.log.Line.{Line}
 use Rattle.pl_event.specs.declared.log.Log.{Log}
-use Rattle.pl_event.specs.Edges.{IsFlow}
 use Rattle.pl_event.specs.Numbers.{hart_of}
-use Rattle.pl_event.specs.Records.{records_before, IsRecord}
+use Rattle.pl_event.specs.Records.{records_before}
 use Rattle.pl_event.specs.Runs.{IsRunLog}
 use Rattle.pl_event.proofs.Places as places
 use Rattle.order_core.specs.declared.course.Course.{Course}
 use Rattle.order_core.specs.declared.course.Op.{Op}
-use Rattle.order_core.specs.declared.course.Operation.{Operation}
 use Rattle.order_core.specs.declared.record_plan.RecordPlan.{RecordPlan}
-use Rattle.order_core.specs.Course.{Planned, course_of, length_of, operations_from, tagged}
+use Rattle.order_core.specs.Course.{Planned, course_of, operations_from, tagged}
 use Rattle.order_core.specs.Lists.{HasNeeds, HasRecords, listed, ops_in, ops_of, stream_of}
 use Rattle.order_core.specs.Lawful.{IsLawful}
 use Rattle.lifeguard.specs.Rules.{Rules}

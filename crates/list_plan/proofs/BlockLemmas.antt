@@ -1,11 +1,8 @@
 -- Words whose nibbles are changed.
-use Rattle.std.proofs.Common.{◌≡◌, ◌≢◌, ℕ, zero, suc, ◌+◌, ◌*◌, ◌-◌, ◌/◌, ◌%◌, ◌^◌, ◌<◌, ◌≤◌, Bool, true, false, eqb, ltb, List, [], ◌∷◌, ◌++◌, refl, sym, ap, ◌∙◌, subst, arith, eq-eqb, if◌then◌else◌}
+use Rattle.std.proofs.Common.{◌≡◌, ◌≢◌, ℕ, zero, suc, ◌*◌, ◌/◌, ◌%◌, ◌^◌, ◌<◌, ◌≤◌, Bool, true, false, eqb, List, [], ◌∷◌, ◌++◌, sym, ap, ◌∙◌, subst, arith, eq-eqb, if◌then◌else◌}
 use Rattle.std.proofs.lemmas.Bool.{ne_eqb}
 use Rattle.std.proofs.Math.Nat.{div-eq_of_lt, pow-le-pow_right, pow-suc}
-use mathlib.Core.Logic.{dite}
-use native.Mathlib.Decide.{ℕ_discrete, dec_le}
 use Rattle.order_core.specs.Shapes.{Shape}
-use Rattle.lifeguard.specs.State.{is_in}
 use Rattle.shadow_frames.specs.Words.{nibble_of, shadow_word}
 use Rattle.shadow_frames.specs.Frames.{reads, reads_lanes, writes, writes_lanes}
 use Rattle.shadow_layout.specs.Operations.{block_directory, block_word, change_block, changed_word, in_block, lanes_of, load_shapes, not_addr, not_taint, on_block, only, read_block, remade, store_shapes}

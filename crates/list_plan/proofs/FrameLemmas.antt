@@ -2,12 +2,11 @@
 use Rattle.std.proofs.lemmas.List.{get_or-set_same, get_or-set_other}
 use mathlib.Core.Logic.{dite}
 use native.Mathlib.Decide.{ℕ_discrete}
-use Rattle.std.proofs.Common.{◌≡◌, ℕ, zero, suc, ◌+◌, ◌-◌, ◌*◌, ◌/◌, ◌%◌, ◌^◌, ◌<◌, ◌≤◌, Bool, true, false, ltb, length, slice_index, slice_set, List, [], ◌∷◌, ◌++◌, slice_get, Some, None, Option, refl, sym, ap, ◌∙◌, subst, arith, if◌then◌else◌}
+use Rattle.std.proofs.Common.{◌≡◌, ℕ, zero, suc, ◌+◌, ◌-◌, ◌*◌, ◌/◌, ◌%◌, ◌^◌, ◌<◌, Bool, true, false, ltb, length, slice_index, slice_set, List, [], ◌∷◌, ◌++◌, slice_get, Some, None, Option, refl, sym, ap, ◌∙◌, subst, arith, if◌then◌else◌}
 use Rattle.order_core.specs.Shapes.{Shape, AreSoundShapes, after_shapes}
 use Rattle.shadow_frames.specs.Words.{is_used}
 use Rattle.shadow_frames.specs.Frames.{frame_or_none, frame_shapes, free_from, freed_shapes, lowest_free, map_page, pages_from, reads, unmap_page, writes}
 use Rattle.shadow_frames.proofs.Many.{after_append}
-use Rattle.shadow_frames.proofs.Free.{bool_cases}
 use Rattle.list_plan.specs.declared.filler.Filler.{Filler}
 use Rattle.list_plan.specs.inner.Fills.{Fills, words_of}
 use Rattle.list_plan.specs.inner.Pieces.{placed, word_read}

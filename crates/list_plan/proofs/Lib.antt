@@ -6,3 +6,4 @@ pub mod OpeningTable
 pub mod RowLemmas
 pub mod Agreeing
 pub mod LineLemmas
+pub mod StepLemmas

@@ -1,5 +1,5 @@
 -- What is known of the lines of a log of which it is only known that it is a run's.
-use Rattle.std.proofs.Common.{◌≡◌, ℕ, suc, ◌+◌, ◌^◌, ◌<◌, ◌≤◌, List, [], ◌∷◌, ◌++◌, length, take, All, Option, Some, slice_get, slice_index, refl, sym, ap, ◌∙◌, subst, arith}
+use Rattle.std.proofs.Common.{◌≡◌, ℕ, ◌+◌, ◌^◌, ◌<◌, ◌≤◌, List, length, All, Option, Some, slice_get, slice_index, refl, sym, subst, arith}
 use Rattle.std.proofs.Math.Logic.{∥∥₁_elim, ∥∥₁_map}
 use Rattle.std.specs.Coded.{Coded-set, coded_ℕ, coded_list, coded_option}
 use denote.Struct.Props.{props}
@@ -14,7 +14,7 @@ use Rattle.pl_event.specs.Heads.{IsNext, Tells}
 use Rattle.pl_event.specs.Needs.{needs_of}
 use Rattle.pl_event.specs.Numbers.{hart_of}
 use Rattle.pl_event.specs.OpeningPages.{RiseFrom, pages_in}
-use Rattle.pl_event.specs.Records.{records_before, IsRecord}
+use Rattle.pl_event.specs.Records.{records_before}
 use Rattle.pl_event.specs.Runs.{IsRunLog}
 use Rattle.pl_event.proofs.Before.{got, room}
 use Rattle.lifeguard.specs.Rules.{Rules, KeepsLaws}

@@ -3,10 +3,9 @@ use Rattle.std.proofs.Common.{◌≡◌, ℕ, zero, suc, ◌+◌, ◌*◌, ◌/�
 use Rattle.pl_event.specs.declared.log.PageRun.{PageRun}
 use Rattle.pl_event.specs.OpeningPages.{RiseFrom, pages_in}
 use Rattle.lifeguard.specs.Rules.{Rules, KeepsLaws}
-use Rattle.lifeguard.specs.State.{first_state}
 use Rattle.order_core.specs.Core.{put}
-use Rattle.order_core.specs.Shapes.{Shape, after_shapes}
-use Rattle.shadow_frames.specs.Words.{WordsRepresent, all_nibbles, is_used, nibble_of}
+use Rattle.order_core.specs.Shapes.{after_shapes}
+use Rattle.shadow_frames.specs.Words.{all_nibbles, is_used, nibble_of}
 use Rattle.shadow_frames.specs.Frames.{fills, frame_shapes, free_from, lowest_free, map_page, pages_from}
 use Rattle.shadow_frames.specs.Opening.{map_run, opening_words}
 use Rattle.shadow_frames.proofs.Mapping.{put_else, put_here}

@@ -1,5 +1,5 @@
 -- The records of a run's log have room.
-use Rattle.std.proofs.Common.{◌≡◌, ℕ, ◌+◌, ◌*◌, ◌%◌, ◌^◌, ◌<◌, ◌≤◌, List, [], ◌∷◌, length, All, Some, slice_get, refl, sym, ap, ◌∙◌, subst, arith}
+use Rattle.std.proofs.Common.{◌≡◌, ℕ, ◌+◌, ◌%◌, ◌^◌, ◌<◌, ◌≤◌, List, [], ◌∷◌, All, Some, slice_get, ap, subst, arith}
 use Rattle.std.proofs.lemmas.List.Elements.{All-nil, All-cons}
 use denote.Struct.Props.{props}
 use mathlib.Core.Option.{some}
@@ -21,11 +21,10 @@ use Rattle.pl_event.specs.Valid.{HasValidFields, IsAligned}
 use Rattle.pl_event.proofs.MappedPages.{line_holds}
 use Rattle.pl_event.proofs.Places.{inside}
 use Rattle.lifeguard.specs.Rules.{Rules, KeepsLaws}
-use Rattle.lifeguard.specs.State.{Masks, State}
-use Rattle.order_core.specs.Shapes.{Shape, AreSoundShapes}
+use Rattle.lifeguard.specs.State.{Masks}
+use Rattle.order_core.specs.Shapes.{AreSoundShapes}
 use Rattle.order_core.specs.Filled.{words_after}
 use Rattle.shadow_frames.specs.Words.{all_nibbles}
-use Rattle.shadow_frames.specs.Opening.{opening_words}
 use Rattle.shadow_layout.specs.Operations.{shapes}
 use Rattle.shadow_layout.specs.Logs.{log_shapes, line_shapes, record_shapes, state_before}
 use Rattle.shadow_layout.proofs.LogLemmas.{sound_at}

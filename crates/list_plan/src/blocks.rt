@@ -144,11 +144,7 @@ impl Filler {
         }
         let word = shadow_word(directory, block);
         let old = self.read(word, 15, false)?;
-        self.write(
-            word,
-            15,
-            word_after(guard, change, addr, len, block, old),
-        )?;
+        self.write(word, 15, word_after(guard, change, addr, len, block, old))?;
         Ok(())
     }
 
@@ -201,7 +197,12 @@ impl Filler {
     }
 
     // The word of an address is read, for the check and for the value.
-    pub(crate) fn load<L: Lifeguard>(&mut self, guard: L, size: u8, addr: u32) -> Result<(), NoMemory>
+    pub(crate) fn load<L: Lifeguard>(
+        &mut self,
+        guard: L,
+        size: u8,
+        addr: u32,
+    ) -> Result<(), NoMemory>
         requires { addr < MEMORY_BYTES }
         ensures { OnOk result (Fills self.old self.new (load_shapes (L.rules guard) size (words_of self.old) addr)) }
     {

@@ -110,12 +110,7 @@ impl Filler {
     }
 
     // Pages get frames, each the lowest that is free.
-    pub(crate) fn map_pages(
-        &mut self,
-        page: u32,
-        count: u32,
-        filling: u64,
-    ) -> Result<(), NoMemory>
+    pub(crate) fn map_pages(&mut self, page: u32, count: u32, filling: u64) -> Result<(), NoMemory>
         requires inside { page + count ≤ PAGE_COUNT }
         requires frames { HasFrames filling (words_of self.old) page count }
         requires filling { HasNibbles filling }

@@ -65,10 +65,24 @@ impl Filler {
                 addr,
             } => self.store(guard, size, addr, width.bytes() as u32, mask),
             Kind::Al { addr, len } => {
-                self.change_range(guard, Change::Range { kind: RangeKind::Al }, addr, len)
+                self.change_range(
+                    guard,
+                    Change::Range {
+                        kind: RangeKind::Al,
+                    },
+                    addr,
+                    len,
+                )
             }
             Kind::Fr { addr, len } => {
-                self.change_range(guard, Change::Range { kind: RangeKind::Fr }, addr, len)
+                self.change_range(
+                    guard,
+                    Change::Range {
+                        kind: RangeKind::Fr,
+                    },
+                    addr,
+                    len,
+                )
             }
             Kind::Mp { page, count } => {
                 let filling = all_nibbles(guard.page_state(PageKind::Data));
@@ -76,7 +90,14 @@ impl Filler {
             }
             Kind::Um { page, count } => self.unmap_pages(page as u32, count as u32),
             Kind::Rd { addr, len } => {
-                self.change_range(guard, Change::Range { kind: RangeKind::Rd }, addr, len)
+                self.change_range(
+                    guard,
+                    Change::Range {
+                        kind: RangeKind::Rd,
+                    },
+                    addr,
+                    len,
+                )
             }
             Kind::Wr { addr, len } => self.read_range(addr, len),
             Kind::Op { .. }
@@ -99,7 +120,8 @@ impl Filler {
     ) -> Result<(), NoMemory>
         requires { ∥ RecordHasRoom (L.rules monitor.now.guard) (words_of self.old) monitor.now.harts what.now ∥₁ }
         ensures { OnOk result (Fills self.old self.new
-            (record_shapes (L.rules monitor.now.guard) size (state_of monitor.now.shadow) (words_of self.old) what.now)) }
+            (record_shapes (L.rules monitor.now.guard) size (state_of monitor.now.shadow) (words_of self.old)
+            what.now)) }
     {
         match what {
             Record::Event(event) => {
@@ -122,9 +144,11 @@ impl Filler {
         requires none { self.old.operations.items ≡ [] }
         ensures none { OnOk result (self.new.operations.items ≡ []) }
         ensures words { OnOk result (words_of self.new ≡ after_shapes (words_of self.old)
-            (record_shapes (L.rules monitor.now.guard) size (state_of monitor.now.shadow) (words_of self.old) what.now)) }
+            (record_shapes (L.rules monitor.now.guard) size (state_of monitor.now.shadow) (words_of self.old)
+            what.now)) }
         ensures operations { IfOk result (λ operations. operations.items ≡ fill (words_of self.old)
-            (record_shapes (L.rules monitor.now.guard) size (state_of monitor.now.shadow) (words_of self.old) what.now)) }
+            (record_shapes (L.rules monitor.now.guard) size (state_of monitor.now.shadow) (words_of self.old)
+            what.now)) }
     {
         self.perform_record(monitor, size, what)?;
         Ok(self.take(alloc))

@@ -42,15 +42,13 @@ fn opening_of<L: Lifeguard>(alloc: Global, log: &Log, guard: L) -> Result<Vec<u6
 }
 
 // Applies the event of a record; a notice has none.
-fn apply_record<L: Lifeguard>(
-    monitor: &mut PlainMonitor<L>,
-    what: &Record,
-) -> Result<(), NoMemory>
+fn apply_record<L: Lifeguard>(monitor: &mut PlainMonitor<L>, what: &Record) -> Result<(), NoMemory>
     requires valid { ∥ IsSoundFor monitor.old.harts what.now ∥₁ }
     requires room { place_of monitor.old.shadow < MAX_RECORDS }
     ensures represents { OnOk result ((pages : List PageRun) (events : List Event)
         → Represents (L.rules monitor.old.guard) pages events monitor.old.shadow
-        → Represents (L.rules monitor.old.guard) pages (events ++ cons_option (event_of what.now) []) monitor.new.shadow) }
+        → Represents (L.rules monitor.old.guard) pages (events ++ cons_option (event_of what.now) [])
+        monitor.new.shadow) }
     ensures guard { monitor.new.guard ≡ monitor.old.guard }
     ensures harts { monitor.new.harts ≡ monitor.old.harts }
 {

@@ -1,4 +1,4 @@
-use Rattle.std.proofs.Common.{ℕ, ◌<◌, arith}
+use Rattle.std.proofs.Common.{arith}
 use Rattle.list_plan.specs.inner.Changes.{changed_nibble}
 use Rattle.list_plan.proofs.BlockLemmas.{changed_is}
 use Rattle.list_plan.proofs.blocks.word_after.Goals as goal

@@ -11,11 +11,11 @@ use Rattle.list_plan.proofs.listing.list_rows.Given as goal
 
 abbrev pub invariant-loop-at : goal.invariant-loop-at
 invariant-loop-at g l =
-    let rules = g.L.Lifeguard.rules l.guard in
+    let rules = g.L.Lifeguard.rules l.fn.guard in
     record {
       words : words_of l.filler ≡ words_after (log_shapes rules l.log) (opening_list rules l.log.pages) l.at;
       none : l.filler.operations.items ≡ [];
-      guard : l.monitor.guard ≡ l.guard;
+      guard : l.monitor.guard ≡ l.fn.guard;
       harts : l.monitor.harts ≡ l.log.harts;
       state : Represents rules l.log.pages (events_of (take l.at l.log.lines)) l.monitor.shadow;
       heads : ∥ Tells l.heads l.log.lines l.at ∥₁;

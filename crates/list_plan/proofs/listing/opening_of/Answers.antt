@@ -1,4 +1,4 @@
-use Rattle.std.proofs.Common.{◌≡◌, ◌≤◌, ℕ, List, [], ◌∷◌, slice_index, sym, ◌∙◌, subst}
+use Rattle.std.proofs.Common.{◌≤◌, List, [], ◌∷◌, sym, ◌∙◌, subst}
 use Rattle.pl_event.specs.declared.log.PageRun.{PageRun}
 use Rattle.pl_event.specs.OpeningPages.{RiseFrom, pages_in}
 use Rattle.shadow_frames.specs.Opening.{opening_words, state_in}

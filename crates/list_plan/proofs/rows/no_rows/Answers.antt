@@ -1,4 +1,4 @@
-use Rattle.std.proofs.Common.{◌≡◌, ℕ, ◌+◌, [], ◌∷◌, ◌++◌, length, length-append, List, Vec, Global, ap, ◌∙◌, subst, sym}
+use Rattle.std.proofs.Common.{◌≡◌, ℕ, ◌+◌, [], ◌∷◌, length, length-append, List, Vec, Global, ap, ◌∙◌, subst, sym}
 use Rattle.order_core.specs.declared.record_plan.RecordPlan.{RecordPlan}
 use Rattle.order_core.specs.Lists.{stream_of}
 use Rattle.list_plan.proofs.RowLemmas.{none_more}

@@ -1,4 +1,4 @@
-use Rattle.std.proofs.Common.{ℕ, ◌/◌}
+use Rattle.std.proofs.Common.{◌/◌}
 use Rattle.shadow_layout.specs.Operations.{change_block}
 use Rattle.list_plan.specs.inner.Changes.{changed_nibble}
 use Rattle.list_plan.proofs.FillLemmas.{fills_next}

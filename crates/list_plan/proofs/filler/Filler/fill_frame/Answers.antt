@@ -1,4 +1,4 @@
-use Rattle.std.proofs.Common.{ℕ, ◌+◌, ◌*◌, refl}
+use Rattle.std.proofs.Common.{◌+◌, ◌*◌, refl}
 use Rattle.list_plan.specs.inner.Pieces.{word_filled}
 use Rattle.list_plan.proofs.FillLemmas.{fills_next}
 use Rattle.list_plan.proofs.filler.Filler.fill_frame.Goals as goal

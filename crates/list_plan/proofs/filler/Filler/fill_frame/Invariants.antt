@@ -1,4 +1,4 @@
-use Rattle.std.proofs.Common.{ℕ, ◌+◌, ◌*◌}
+use Rattle.std.proofs.Common.{◌+◌, ◌*◌}
 use Rattle.shadow_frames.specs.Frames.{pages_from}
 use Rattle.list_plan.specs.inner.Fills.{Fills, words_of}
 use Rattle.list_plan.specs.inner.Pieces.{word_filled}

@@ -1,4 +1,4 @@
-use Rattle.std.proofs.Common.{sym, ap, ◌∙◌}
+use Rattle.std.proofs.Common.{ap, ◌∙◌}
 use Rattle.shadow_layout.specs.Operations.{not_addr, not_taint}
 use Rattle.list_plan.proofs.BlockLemmas.{loads_none, loads_some}
 use Rattle.list_plan.proofs.filler.Filler.load.Goals as goal

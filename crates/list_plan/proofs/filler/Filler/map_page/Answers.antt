@@ -1,6 +1,5 @@
-use Rattle.std.proofs.Common.{◌≡◌, ℕ, ◌<◌, Bool, false, sym, ap, ◌∙◌, subst}
+use Rattle.std.proofs.Common.{ℕ, ap, ◌∙◌, subst}
 use Rattle.shadow_frames.specs.Words.{is_used}
-use Rattle.shadow_frames.specs.Frames.{lowest_free}
 use Rattle.list_plan.specs.inner.Fills.{Fills, words_of}
 use Rattle.list_plan.specs.inner.Pieces.{placed}
 use Rattle.list_plan.proofs.FrameLemmas.{frame_is, is_free, map_read, maps_page}

@@ -1,5 +1,4 @@
-use Rattle.std.proofs.Common.{ℕ, ◌<◌, sym, subst}
-use Rattle.shadow_frames.specs.Frames.{lowest_free, map_page}
+use Rattle.shadow_frames.specs.Frames.{map_page}
 use Rattle.list_plan.proofs.FillLemmas.{fills_next}
 use Rattle.list_plan.proofs.filler.Filler.map_pages.Goals as goal
 

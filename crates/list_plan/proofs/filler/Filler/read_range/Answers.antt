@@ -1,4 +1,4 @@
-use Rattle.std.proofs.Common.{ℕ, ◌/◌}
+use Rattle.std.proofs.Common.{◌/◌}
 use Rattle.shadow_layout.specs.Operations.{read_block}
 use Rattle.list_plan.proofs.FillLemmas.{fills_next}
 use Rattle.list_plan.proofs.filler.Filler.read_range.Goals as goal

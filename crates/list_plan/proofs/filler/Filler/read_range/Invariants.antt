@@ -1,4 +1,4 @@
-use Rattle.std.proofs.Common.{ℕ, ◌/◌}
+use Rattle.std.proofs.Common.{◌/◌}
 use Rattle.shadow_frames.specs.Frames.{pages_from}
 use Rattle.shadow_layout.specs.Operations.{read_block}
 use Rattle.list_plan.specs.inner.Fills.{Fills, words_of}

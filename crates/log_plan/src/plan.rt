@@ -25,6 +25,20 @@ impl<'a, L: Lifeguard> LogPlan<'a, L> {
     {
         LogPlan { log, guard: l }
     }
+
+    /// The log.
+    pub fn log(&self) -> &OrderedLog
+        ensures { result.now ≡ self.now.log.now }
+    {
+        self.log
+    }
+
+    /// The lifeguard.
+    pub fn guard(&self) -> L
+        ensures { result ≡ self.now.guard }
+    {
+        self.guard
+    }
 }
 
 impl<'a, L: Lifeguard> Plan for LogPlan<'a, L> {

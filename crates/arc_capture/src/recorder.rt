@@ -1,5 +1,5 @@
 //! The recorder, event by event.
-ghost use Rattle.std.specs.Prelude.{◌≡◌, ℕ, ◌⊎◌, ◌≤◌, [], ◌∷◌, ◌++◌, List, IfOk, IsErr, OnErr, true};
+ghost use Rattle.std.specs.Prelude.{◌≡◌, ℕ, ◌⊎◌, ◌≤◌, [], ◌∷◌, ◌++◌, List, IfOk, IsErr, OnErr, OnOk, true, false};
 ghost use Rattle.pl_base.specs.declared.layout.TheConstants.{MAX_HARTS};
 ghost use Rattle.pl_event.specs.declared.event.Event.{Event};
 ghost use Rattle.pl_event.specs.declared.log.Line.{Line};
@@ -28,6 +28,7 @@ impl Recorder {
         requires block { IsBlockSize block }
         ensures harts { IfOk result (λ recorder. recorder.placer.harts ≡ harts) }
         ensures none { IfOk result (λ recorder. HasRecorded recorder.placer recorder.marker block [] []) }
+        ensures goes_on { IfOk result (λ recorder. recorder.failed ≡ false) }
     {
         let marker = Marker::new(alloc, harts, block)?;
         Ok(Recorder {
@@ -61,6 +62,7 @@ impl Recorder {
             MayFeed self.old.placer self.old.marker size events lines event.now → IfOk result (λ more.
             HasRecorded self.new.placer self.new.marker size (events ++ event.now ∷ []) (lines ++ more.items)) }
         ensures harts { self.new.placer.harts ≡ self.old.placer.harts }
+        ensures goes_on { OnOk result (self.new.failed ≡ false) }
         ensures stays { self.old.failed ≡ true → IsErr result }
         ensures err { OnErr result (self.new.failed ≡ true) }
     {

@@ -8,13 +8,10 @@ use Rattle.pl_event.specs.declared.log.Line.{Line}
 use Rattle.pl_event.specs.declared.log.Record.TheVariants as entry
 use Rattle.pl_event.specs.Alerts.{is_alert_kind}
 use Rattle.pl_event.specs.Conflicts.{HasNotice}
-use Rattle.pl_event.specs.Edges.{no_arcs, notice_of, IsFlow, IsNotice}
+use Rattle.pl_event.specs.Edges.{no_arcs, IsFlow, IsNotice}
 use Rattle.pl_event.specs.Records.{records_before, IsEvent}
 use Rattle.pl_event.specs.Runs.{IsAlert}
-
--- a notice in hart u of record n of hart h
-abbrev pub notice_line : ℕ → ℕ → ℕ → Line
-notice_line u h n = record { what = notice_of u h n; arcs = no_arcs }
+pub use Rattle.pl_event.specs.ShortLogs.{notice_line}
 
 abbrev pub event_line : Event → Line
 event_line event = record { what = entry.Event event; arcs = no_arcs }

@@ -1,7 +1,7 @@
 //! The top call with the standard probes at hand.
 //!
-//! The probes are made here, in one order, and handed to the top call, so that the program and the rows of its tests run
-//! the same call.
+//! The probes are made here, in one order, and handed to the top call, so that the program and the rows of its tests
+//! run the same call.
 #![tactic(auto)]
 
 mod top;

@@ -11,3 +11,4 @@ pub mod WordLines
 pub mod Scans
 pub mod Listing
 pub mod Generated
+pub mod Words

@@ -30,6 +30,29 @@ pub enum JobCause {
     Far,
 }
 
+impl JobCause {
+    ghost use Rattle.std.specs.Prelude.{◌≡◌};
+    ghost use Rattle.guest_asm.specs.Words.{cause_word};
+
+    /// The word that tells it.
+    pub fn word(self) -> &'static str
+        ensures { result.now ≡ cause_word self }
+    {
+        match self {
+            JobCause::Form => "form",
+            JobCause::Harts => "harts",
+            JobCause::Twice => "twice",
+            JobCause::Range => "range",
+            JobCause::Section => "section",
+            JobCause::Align => "align",
+            JobCause::Full => "full",
+            JobCause::Missing => "missing",
+            JobCause::Label => "label",
+            JobCause::Far => "far",
+        }
+    }
+}
+
 /// The lowest line, counted from 1, at which a pass finds a fault, and the first cause found there. The end counts as
 /// the line after the last.
 #[derive(Clone, Copy, Debug, PartialEq, Eq)]

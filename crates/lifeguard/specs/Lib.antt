@@ -6,3 +6,4 @@ pub mod Ranges
 pub mod Rules
 pub mod Shadow
 pub mod State
+pub mod Words

@@ -16,6 +16,22 @@ pub enum Name {
     Mem,
 }
 
+impl Name {
+    ghost use Rattle.std.specs.Prelude.{◌≡◌};
+    ghost use Rattle.lifeguard.specs.Words.{guard_word};
+
+    /// The word that names it.
+    pub fn word(self) -> &'static str
+        ensures { result.now ≡ guard_word self }
+    {
+        match self {
+            Name::Addr => "addrcheck",
+            Name::Taint => "taintcheck",
+            Name::Mem => "memcheck",
+        }
+    }
+}
+
 /// An event that changes the nibbles of a range of bytes.
 #[derive(Clone, Copy, Debug, PartialEq, Eq)]
 pub enum RangeKind {

@@ -10,3 +10,4 @@ pub mod Tally
 pub mod WellFormed
 pub mod Writing
 pub mod Streaming
+pub mod Words

@@ -33,6 +33,31 @@ pub enum LogCause {
     Map,
 }
 
+impl LogCause {
+    ghost use Rattle.std.specs.Prelude.{◌≡◌};
+    ghost use Rattle.log_text.specs.Words.{cause_word};
+
+    /// The word that tells it.
+    pub fn word(self) -> &'static str
+        ensures { result.now ≡ cause_word self }
+    {
+        match self {
+            LogCause::Header => "header",
+            LogCause::Form => "form",
+            LogCause::Page => "page",
+            LogCause::Records => "records",
+            LogCause::Hart => "hart",
+            LogCause::Ended => "ended",
+            LogCause::Open => "open",
+            LogCause::Arc => "arc",
+            LogCause::Notice => "notice",
+            LogCause::Access => "access",
+            LogCause::Range => "range",
+            LogCause::Map => "map",
+        }
+    }
+}
+
 /// The first line, counted from 1, that breaks a rule, and the first rule that it breaks. The end counts as the line
 /// after the last.
 #[derive(Clone, Copy, Debug, PartialEq, Eq)]

@@ -16,7 +16,7 @@ use Rattle.guest_asm.specs.declared.cause.JobFault.{JobFault}
 use Rattle.guest_asm.proofs.Verdicts.{no_job}
 use Rattle.lifeguard.specs.declared.guard.Name.{Name}
 use Rattle.lifeguard.specs.declared.guard.Name.TheVariants as guards
-use Rattle.report_text.specs.ReportText.{guard_word}
+use Rattle.lifeguard.specs.Words.{guard_word}
 use Rattle.replay_probes.specs.Meaning.{Meaning}
 use Rattle.paralog_top.specs.declared.answer.Verdict.{Verdict}
 use Rattle.paralog_top.specs.declared.answer.Verdict.TheVariants as verdict

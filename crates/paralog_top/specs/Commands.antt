@@ -3,7 +3,7 @@ use Rattle.std.specs.Prelude.{◌≡◌, ℕ, ◌≤◌, List, [], ◌∷◌, Bo
 use Rattle.std.specs.List.{list_any, list_all, position_from}
 use Rattle.pl_base.specs.declared.layout.TheConstants.{MAX_JOB_BYTES, MAX_LOG_BYTES}
 use Rattle.lifeguard.specs.declared.guard.Name.{Name}
-use Rattle.report_text.specs.ReportText.{guard_word}
+use Rattle.lifeguard.specs.Words.{guard_word}
 use Rattle.replay_probes.specs.Meaning.{Meaning}
 use Rattle.paralog_top.specs.declared.command.Command.{Command}
 use Rattle.paralog_top.specs.declared.command.Command.TheVariants as command

@@ -1,10 +1,10 @@
 //! The lines that go to the notes.
 ghost use Rattle.std.specs.Prelude.{◌≡◌, IfOk, string_bytes};
 ghost use Rattle.paralog_top.specs.Asked.{told};
-ghost use Rattle.paralog_top.specs.Notes.{IsNoted, cause_word, job_cause_word, job_note, log_note, unordered_note};
+ghost use Rattle.paralog_top.specs.Notes.{IsNoted, job_note, log_note, unordered_note};
 
-use guest_asm::{JobCause, JobFault};
-use log_text::{LogCause, LogFault};
+use guest_asm::JobFault;
+use log_text::LogFault;
 use pl_base::{Sink, write_all_counted};
 use pl_event::Point;
 use std::alloc::{AllocError, Global};
@@ -21,29 +21,10 @@ pub fn log_line(alloc: Global, fault: LogFault) -> Result<String, AllocError>
     ensures { IfOk result (λ line. string_bytes line ≡ log_note fault) }
 {
     let LogFault { line, cause } = fault;
-    let word = word_of(cause);
+    let word = cause.word();
     let mut out = String::new(alloc);
     write!(out, "paralog: log line {line}: {word}\n")?;
     Ok(out)
-}
-
-fn word_of(cause: LogCause) -> &'static str
-    ensures { result.now ≡ cause_word cause }
-{
-    match cause {
-        LogCause::Header => "header",
-        LogCause::Form => "form",
-        LogCause::Page => "page",
-        LogCause::Records => "records",
-        LogCause::Hart => "hart",
-        LogCause::Ended => "ended",
-        LogCause::Open => "open",
-        LogCause::Arc => "arc",
-        LogCause::Notice => "notice",
-        LogCause::Access => "access",
-        LogCause::Range => "range",
-        LogCause::Map => "map",
-    }
 }
 
 /// The note of a bad job.
@@ -51,27 +32,10 @@ pub fn job_line(alloc: Global, fault: JobFault) -> Result<String, AllocError>
     ensures { IfOk result (λ line. string_bytes line ≡ job_note fault) }
 {
     let JobFault { line, cause } = fault;
-    let word = job_word(cause);
+    let word = cause.word();
     let mut out = String::new(alloc);
     write!(out, "paralog: job line {line}: {word}\n")?;
     Ok(out)
-}
-
-fn job_word(cause: JobCause) -> &'static str
-    ensures { result.now ≡ job_cause_word cause }
-{
-    match cause {
-        JobCause::Form => "form",
-        JobCause::Harts => "harts",
-        JobCause::Twice => "twice",
-        JobCause::Range => "range",
-        JobCause::Section => "section",
-        JobCause::Align => "align",
-        JobCause::Full => "full",
-        JobCause::Missing => "missing",
-        JobCause::Label => "label",
-        JobCause::Far => "far",
-    }
 }
 
 /// The note of a log that is not ordered.

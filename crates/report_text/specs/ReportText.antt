@@ -3,21 +3,15 @@ use Rattle.std.specs.Prelude.{ℕ, false, ◌==◌, List, [], ◌∷◌, ◌++�
 use Rattle.std.specs.List.{enumerate_from, flat_map}
 use Rattle.std.specs.Fmt.{decimal, digits}
 use Rattle.lifeguard.specs.declared.guard.Name.{Name}
-use Rattle.lifeguard.specs.declared.guard.Name.TheVariants as guard
 use Rattle.lifeguard.specs.declared.report.Report.{Report}
 use Rattle.lifeguard.specs.declared.report.ReportKind.{ReportKind}
 use Rattle.lifeguard.specs.declared.report.ReportKind.TheVariants as kind
+use Rattle.lifeguard.specs.Words.{guard_word}
 use Rattle.report_text.specs.declared.runs.ByteRun.{ByteRun}
 
 -- lower case, without leading zeros
 abbrev pub hex : ℕ → List ℕ
 hex n = digits 16 false n
-
--- the lifeguard's word
-abbrev pub guard_word : Name → List ℕ
-guard_word guard.Addr = codes "addrcheck"
-guard_word guard.Taint = codes "taintcheck"
-guard_word guard.Mem = codes "memcheck"
 
 -- the lifeguard, the number of harts, and the number of reports
 abbrev pub head_lines : Name → ℕ → ℕ → List ℕ

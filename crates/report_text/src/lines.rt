@@ -1,21 +1,11 @@
 ghost use Rattle.std.specs.Prelude.{◌≡◌, ◌++◌, IfOk, OnOk, string_bytes};
 ghost use Rattle.std.specs.List.{flat_map};
-ghost use Rattle.report_text.specs.ReportText.{guard_word, head_lines, finding, report_line, register_line, hart_lines, mask_lines, run_line, report_text};
+ghost use Rattle.report_text.specs.ReportText.{head_lines, finding, report_line, register_line, hart_lines, mask_lines, run_line, report_text};
 
 use crate::runs::ByteRun;
 use lifeguard::{Name, Report, ReportKind};
 use pl_base::NoMemory;
 use std::alloc::{AllocError, Global};
-
-fn word_of(name: Name) -> &'static str
-    ensures { result.now ≡ guard_word name }
-{
-    match name {
-        Name::Addr => "addrcheck",
-        Name::Taint => "taintcheck",
-        Name::Mem => "memcheck",
-    }
-}
 
 fn write_finding(out: &mut String, kind: ReportKind, addr: u32) -> Result<(), AllocError>
     ensures { OnOk result (string_bytes out.new ≡ string_bytes out.old ++ finding kind addr) }
@@ -120,7 +110,7 @@ pub fn text(
     ensures { IfOk result (λ text. text.items ≡ report_text name harts reports.now masks.now runs.now) }
 {
     let mut out = String::new(alloc);
-    let word = word_of(name);
+    let word = name.word();
     let count = reports.len();
     write!(out, "PREP 1 {word} harts {harts}\nreports {count}\n")?;
     write_reports(&mut out, reports)?;

@@ -6,3 +6,4 @@ pub mod Capturing
 pub mod Marking
 pub mod MarkingAll
 pub mod Feeding
+pub mod Again

@@ -8,9 +8,11 @@
 mod capture;
 mod laws;
 mod marker;
+mod recaptured;
 mod recorder;
 
 pub use capture::Capture;
 pub use laws::{recorded_events, recorder_lines};
 pub use marker::Marker;
+pub use recaptured::recapture;
 pub use recorder::Recorder;

@@ -1,5 +1,5 @@
 //! The arcs of placed lines, line by line.
-ghost use Rattle.std.specs.Prelude.{◌≡◌, ℕ, ◌≤◌, [], ◌∷◌, ◌++◌, List, length, IfOk};
+ghost use Rattle.std.specs.Prelude.{◌≡◌, ℕ, ◌≤◌, [], ◌∷◌, ◌++◌, List, length, IfOk, OnOk};
 ghost use Rattle.pl_base.specs.declared.layout.TheConstants.{MAX_HARTS};
 ghost use Rattle.pl_event.specs.declared.log.Line.{Line};
 ghost use Rattle.pl_event.specs.Runs.{IsBlockSize};
@@ -59,19 +59,19 @@ impl Marker {
         })
     }
 
-    /// The next placed lines with their arcs, as `mark` gives them.
-    pub fn mark_all(&mut self, alloc: Global, more: &[Line]) -> Result<Vec<Line>, NoMemory>
+    /// The next placed lines with their arcs, as `mark` gives them, in place of what `marked` held.
+    pub fn mark_into(&mut self, more: &[Line], marked: &mut Vec<Line>) -> Result<(), NoMemory>
         requires { (size : ℕ) × (base : List Line) × (lines : List Line)
             × MayMarkAll self.old size base lines more.now }
         ensures ok { (size : ℕ) (base lines : List Line) → MayMarkAll self.old size base lines more.now →
-            IfOk result (λ marked. HasMarked self.new size (base ++ more.now) (lines ++ marked.items)) }
+            OnOk result (HasMarked self.new size (base ++ more.now) (lines ++ marked.new.items)) }
         ensures harts { self.new.reducer.harts ≡ self.old.reducer.harts }
     {
-        let mut marked = Vec::new(alloc);
+        marked.clear();
         for at in 0..more.len() {
             let line = self.mark(&more[at])?;
             marked.push(line)?;
         }
-        Ok(marked)
+        Ok(())
     }
 }

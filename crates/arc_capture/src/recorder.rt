@@ -16,6 +16,8 @@ use std::alloc::Global;
 pub struct Recorder {
     placer: Placer,
     marker: Marker,
+    /// The placed lines of one event.
+    placed: Vec<Line>,
     failed: bool,
 }
 
@@ -34,27 +36,51 @@ impl Recorder {
         Ok(Recorder {
             placer: Placer::new(harts),
             marker,
+            placed: Vec::new(alloc),
             failed: false,
         })
     }
 
-    // The lines of the next event.
-    fn record(&mut self, alloc: Global, event: &Event) -> Result<Vec<Line>, NoMemory>
-        requires { (size : ℕ) × (events : List Event) × (lines : List Line)
-            × MayFeed self.old.placer self.old.marker size events lines event.now }
-        ensures ok { (size : ℕ) (events : List Event) (lines : List Line) →
-            MayFeed self.old.placer self.old.marker size events lines event.now → IfOk result (λ more.
-            HasRecorded self.new.placer self.new.marker size (events ++ event.now ∷ []) (lines ++ more.items)) }
+    // The lines of the next event, in place of what `lines` held.
+    fn record(&mut self, event: &Event, lines: &mut Vec<Line>) -> Result<(), NoMemory>
+        requires { (size : ℕ) × (events : List Event) × (before : List Line)
+            × MayFeed self.old.placer self.old.marker size events before event.now }
+        ensures ok { (size : ℕ) (events : List Event) (before : List Line) →
+            MayFeed self.old.placer self.old.marker size events before event.now → OnOk result
+            (HasRecorded self.new.placer self.new.marker size (events ++ event.now ∷ []) (before ++ lines.new.items)) }
         ensures harts { self.new.placer.harts ≡ self.old.placer.harts }
         ensures failed { self.new.failed ≡ self.old.failed }
     {
-        let placed = self.placer.place(alloc, event)?;
-        self.marker.mark_all(alloc, &placed)
+        self.placed.clear();
+        self.placer.place_into(event, &mut self.placed)?;
+        self.marker.mark_into(&self.placed, lines)
     }
 
-    /// The lines of the next event: before an alert event a notice in each other hart by rising hart, and the event
-    /// with its arcs, which are the last records that conflict by a block and that it does not come after otherwise.
-    /// The event is valid for the run, and fewer than 2,000,000 were given. After `NoMemory` each answer is `NoMemory`.
+    /// The lines of the next event, in place of what `lines` held: before an alert event a notice in each other hart by
+    /// rising hart, and the event with its arcs, which are the last records that conflict by a block and that it does
+    /// not come after otherwise. The event is valid for the run, and fewer than 2,000,000 were given. After `NoMemory`
+    /// each answer is `NoMemory`.
+    pub fn feed_into(&mut self, event: &Event, lines: &mut Vec<Line>) -> Result<(), NoMemory>
+        requires { (self.old.failed ≡ true) ⊎ ((size : ℕ) × (events : List Event) × (before : List Line)
+            × MayFeed self.old.placer self.old.marker size events before event.now) }
+        ensures ok { (size : ℕ) (events : List Event) (before : List Line) →
+            MayFeed self.old.placer self.old.marker size events before event.now → OnOk result
+            (HasRecorded self.new.placer self.new.marker size (events ++ event.now ∷ []) (before ++ lines.new.items)) }
+        ensures harts { self.new.placer.harts ≡ self.old.placer.harts }
+        ensures goes_on { OnOk result (self.new.failed ≡ false) }
+        ensures stays { self.old.failed ≡ true → IsErr result }
+        ensures err { OnErr result (self.new.failed ≡ true) }
+    {
+        if self.failed {
+            return Err(NoMemory);
+        }
+        self.failed = true;
+        self.record(event, lines)?;
+        self.failed = false;
+        Ok(())
+    }
+
+    /// The lines of the next event, as `feed_into` gives them.
     pub fn feed(&mut self, alloc: Global, event: &Event) -> Result<Vec<Line>, NoMemory>
         requires { (self.old.failed ≡ true) ⊎ ((size : ℕ) × (events : List Event) × (lines : List Line)
             × MayFeed self.old.placer self.old.marker size events lines event.now) }
@@ -66,12 +92,8 @@ impl Recorder {
         ensures stays { self.old.failed ≡ true → IsErr result }
         ensures err { OnErr result (self.new.failed ≡ true) }
     {
-        if self.failed {
-            return Err(NoMemory);
-        }
-        self.failed = true;
-        let lines = self.record(alloc, event)?;
-        self.failed = false;
+        let mut lines = Vec::new(alloc);
+        self.feed_into(event, &mut lines)?;
         Ok(lines)
     }
 }

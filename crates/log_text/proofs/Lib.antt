@@ -2,7 +2,7 @@ mod ReadLemmas
 mod ReaderLemmas
 mod RowLaws
 mod Same
-mod TextLength
+pub mod TextLength
 pub mod AddedLines
 pub mod ArcRules
 pub mod ArcPoints

@@ -153,7 +153,7 @@ rows_short harts front (line ∷ lines) eight lawful =
     let rest = rows_short harts (front ++ row_of line ∷ []) lines eight.1 (subst (IsLawfulRead harts) (sym (append_assoc front (row_of line ∷ []) (map row_of lines))) lawful) in
     omega (arith, length-append (line_text (entry_text (row_of line))) (entries_text (map row_of lines)), here, rest)
 
-runs_short : (runs : List PageRun) → length (entries_text (map page runs)) ≤ 600 * length runs
+pub runs_short : (runs : List PageRun) → length (entries_text (map page runs)) ≤ 600 * length runs
 runs_short [] = omega arith
 runs_short (run ∷ runs) = omega (arith, length-append (line_text (entry_text (page run))) (entries_text (map page runs)), run_short run, runs_short runs)
 
@@ -173,7 +173,7 @@ few_runs harts front (run ∷ runs) rest low lawful =
     let more = few_runs harts (front ++ page run ∷ []) runs rest (omega (arith, end, inside)) (subst (IsLawfulRead harts) (sym (append_assoc front (page run ∷ []) (map page runs ++ rest))) lawful) in
     omega (arith, later, continues.in_form.1, end, more)
 
-header_short : (harts block : ℕ) → length (line_text (header_text harts block)) ≤ 1000
+pub header_short : (harts block : ℕ) → length (line_text (header_text harts block)) ≤ 1000
 header_short harts block =
     let front = codes "PLOG " in
     let version = front ++ decimal (version_of block) in

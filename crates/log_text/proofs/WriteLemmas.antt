@@ -14,7 +14,8 @@ use Rattle.pl_event.specs.declared.log.Record.{Record}
 use Rattle.pl_event.specs.declared.log.Record.TheVariants as entry
 use Rattle.log_text.specs.declared.cause.LogCause.TheVariants.{Page, Records, Hart, Ended, Open, Arc, Notice, Access, Range, Map}
 use Rattle.log_grammar.specs.Form.{IsInForm, IsRecordInForm, IsPointInForm, ArePointsInForm, most_read, most_written}
-use Rattle.log_grammar.specs.Spelling.{Entry, page, row, arc_words, kind_words, point_word, record_words, row_of, entry_text, entries_text, line_text}
+use Rattle.log_grammar.specs.Spelling.{Entry, page, row, arc_words, header_text, kind_words, log_spelling, point_word, record_words, row_of, entry_text, entries_text, line_text}
+use Rattle.log_text.specs.Reading.{with_line}
 use Rattle.log_text.specs.WellFormed.{breaks, Continues, IsWellFormed, IsWritable, rules_in_order, rules_of_any_length}
 use Rattle.log_text.specs.Writing.{arcs_text}
 
@@ -93,3 +94,12 @@ more_lines lines i line found =
     ∙ ap entries_text (map-append row_of (take i lines) (line ∷ []))
     ∙ flat_map-append (λ (e : Entry). line_text (entry_text e)) (map row_of (take i lines)) (row_of line ∷ [])
     ∙ ap (λ (t : List ℕ). entries_text (map row_of (take i lines)) ++ t) (append-nil (line_text (entry_text (row_of line))))
+
+-- the spelling of a log with one more line
+pub spelling_more : (log : Log) (line : Line) → log_spelling (with_line log line) ≡ log_spelling log ++ line_text (entry_text (row_of line))
+spelling_more log line =
+    let head = line_text (header_text log.harts log.block) in
+    let before = map page log.pages ++ map row_of log.lines in
+    ap (λ (es : List Entry). head ++ entries_text es) (ap (λ (rows : List Entry). map page log.pages ++ rows) (map-append row_of log.lines (line ∷ [])) ∙ sym (append_assoc (map page log.pages) (map row_of log.lines) (row_of line ∷ [])))
+    ∙ ap (λ (t : List ℕ). head ++ t) (flat_map-append (λ (e : Entry). line_text (entry_text e)) before (row_of line ∷ []) ∙ ap (λ (t : List ℕ). entries_text before ++ t) (append-nil (line_text (entry_text (row_of line)))))
+    ∙ sym (append_assoc head (entries_text before) (line_text (entry_text (row_of line))))

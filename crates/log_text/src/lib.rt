@@ -7,6 +7,7 @@
 
 mod cause;
 mod faults;
+mod grow;
 mod judge;
 mod laws;
 mod page_set;
@@ -20,6 +21,7 @@ mod write;
 
 pub use cause::{LogCause, LogFault, LogRefused};
 pub use faults::one_fault;
+pub use grow::{add_line, begin_log};
 pub use laws::log_laws;
 pub use read::read_log;
 pub use reader::Row;

@@ -26,14 +26,14 @@ pub fn write_log(alloc: Global, log: &Log) -> Result<Vec<u8>, NoMemory>
     Ok(out.into_bytes())
 }
 
-fn write_header(out: &mut String, harts: u8, block: u8) -> Result<(), AllocError>
+pub fn write_header(out: &mut String, harts: u8, block: u8) -> Result<(), AllocError>
     ensures { OnOk result (string_bytes out.new ≡ string_bytes out.old ++ line_text (header_text harts block)) }
 {
     let version = if block == 16 { 1 } else { 2 };
     write!(out, "PLOG {version} harts {harts} block {block}\n")
 }
 
-fn write_pages(out: &mut String, pages: &[PageRun]) -> Result<(), AllocError>
+pub fn write_pages(out: &mut String, pages: &[PageRun]) -> Result<(), AllocError>
     ensures { OnOk result (string_bytes out.new ≡ string_bytes out.old ++ entries_text (map page pages.now)) }
 {
     'pages: for run in pages {
@@ -70,7 +70,7 @@ fn write_lines(out: &mut String, lines: &Lines) -> Result<(), AllocError>
     Ok(())
 }
 
-fn write_line(out: &mut String, line: &Line) -> Result<(), AllocError>
+pub fn write_line(out: &mut String, line: &Line) -> Result<(), AllocError>
     requires { length line.now.arcs ≡ 8 }
     ensures { OnOk result (string_bytes out.new ≡ string_bytes out.old ++ line_text (entry_text (row_of line.now))) }
 {

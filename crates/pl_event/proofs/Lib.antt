@@ -1,5 +1,6 @@
 pub mod Before
 pub mod Edges
+pub mod EventLemmas
 pub mod Growth
 pub mod MappedPages
 pub mod Mosts

@@ -1,4 +1,3 @@
-pub mod EventLemmas
 pub mod Going
 pub mod Lists
 pub mod Telling

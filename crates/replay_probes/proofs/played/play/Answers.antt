@@ -5,7 +5,7 @@ use Rattle.pl_event.specs.declared.log.Line.{Line}
 use Rattle.pl_event.specs.Numbers.{events_of, event_of}
 use Rattle.replay_probes.specs.CanPlay.{CanPlayRecord}
 use Rattle.replay_probes.specs.Plays.{Plays}
-use Rattle.replay_probes.proofs.EventLemmas.{events-more, few_before}
+use Rattle.pl_event.proofs.EventLemmas.{events-more, few_before}
 use Rattle.replay_probes.proofs.played.play.Goals as goal
 
 pub step_record-requires-clause-room : goal.step_record-requires-clause-room

@@ -2,7 +2,7 @@ use Rattle.std.proofs.Common.{◌+◌, ◌<◌, ◌++◌, List, length, take, sy
 use Rattle.pl_event.specs.declared.log.Line.{Line}
 use Rattle.arc_capture.specs.Marker.{HasMarked}
 use Rattle.arc_capture.proofs.MarkingAll.{at_index, may_mark, marked_more}
-use Rattle.arc_capture.proofs.marker.Marker.mark_all.Goals as goal
+use Rattle.arc_capture.proofs.marker.Marker.mark_into.Goals as goal
 
 pub mark-requires : goal.mark-requires
 mark-requires c =

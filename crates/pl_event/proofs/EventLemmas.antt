@@ -21,7 +21,7 @@ few_of (entry.Event event) events = omega arith
 few_of (entry.Notice hart point) events = omega arith
 
 -- no more events than lines
-few_events : (lines : List Line) → length (events_of lines) ≤ length lines
+pub few_events : (lines : List Line) → length (events_of lines) ≤ length lines
 few_events [] = omega arith
 few_events (line ∷ lines) = omega (arith, few_of line.what (events_of lines), few_events lines)
 

@@ -1,0 +1,6 @@
+pub mod Recorded
+pub mod Texts
+pub mod Recording
+pub mod Writing
+pub mod Tallies
+pub mod Counting

@@ -165,6 +165,21 @@ impl LastAccesses {
         self.rows[slot]
     }
 
+    // Whether a clock knows the last access in a block of each other hart that conflicts.
+    #[inline(always)]
+    fn is_known(&self, block: u32, store: bool, hart: u8, clock: &Clock) -> bool
+        requires { block < length self.now.index.items }
+        ensures yes { IsTrue result → (u : ℕ) → u < 8 → (u ≡ hart → ⊥) →
+            newest (row_at self.now.index.items self.now.rows.items block) store u ≤ time clock.now u }
+        ensures no { result ≡ false → (u : ℕ) × (u < 8) × (u ≡ hart → ⊥)
+            × (time clock.now u < newest (row_at self.now.index.items self.now.rows.items block) store u) }
+    {
+        match self.rows.get(self.slot(block)) {
+            Some(row) => row.is_known(store, hart, clock),
+            None => true,
+        }
+    }
+
     // How many rows there are.
     #[inline]
     fn count(&self) -> usize
@@ -221,7 +236,7 @@ impl LastAccesses {
         ensures block { result ≡ addr / self.now.size }
         ensures within { result < length self.now.index.items }
     {
-        addr / u32::from(self.size)
+        if self.size == 16 { addr / 16 } else { addr / 4 }
     }
 
     /// Takes the next line, which is record `number` of its hart. Without memory the table stays as it was.
@@ -304,15 +319,13 @@ impl LastAccesses {
                 rd: _,
                 rb: _,
                 addr,
-            } => self
-                .row(self.block(addr))
-                .is_known(false, event.hart, clock),
+            } => self.is_known(self.block(addr), false, event.hart, clock),
             Kind::St {
                 width: _,
                 rv: _,
                 rb: _,
                 addr,
-            } => self.row(self.block(addr)).is_known(true, event.hart, clock),
+            } => self.is_known(self.block(addr), true, event.hart, clock),
             _ => true,
         }
     }

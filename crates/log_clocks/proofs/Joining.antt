@@ -15,6 +15,14 @@ module _ (needs : List (Option ℕ)) (t : ℕ → ℕ → ℕ → ℕ) (start : 
     from = λ u n l. inl (let e : v u ≡ start u = same u in omega arith);
   }
 
+  -- where nothing is needed
+  pub join_alone : (b : ℕ) → ((w k : ℕ) → slice_index_or needs w None ≡ Some k → ⊥) → IsJoin needs b t start start
+  join_alone b none = record {
+    before = λ u. omega arith;
+    sources = λ w k low need u. absurd (none w k need);
+    from = λ u n l. inl l;
+  }
+
   abbrev From : ℕ → ℕ → ℕ → Type 0
   From b u n = (n ≤ start u) ⊎ ((w : ℕ) × (k : ℕ) × (w < b) × (slice_index_or needs w None ≡ Some k) × (n ≤ t w k u))
 

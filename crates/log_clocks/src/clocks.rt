@@ -1,7 +1,7 @@
 //! The clocks of all records so far.
 ghost use Rattle.std.specs.Prelude.{◌≡◌, ℕ, suc, ◌+◌, ◌^◌, ◌<◌, ◌≤◌, [], ◌∷◌, ◌++◌, List, length, take, false, IfOk, OnErr, OnOk, slice_index, slice_index_or};
 ghost use Rattle.pl_event.specs.declared.log.Line.{Line};
-ghost use Rattle.pl_event.specs.Edges.{IsFlow, Into};
+ghost use Rattle.pl_event.specs.Edges.{IsFlow, Into, no_arcs};
 ghost use Rattle.pl_event.specs.Graph.{IsClock};
 ghost use Rattle.pl_event.specs.Heads.{IsNext};
 ghost use Rattle.pl_event.specs.Needs.{needs_of};
@@ -40,6 +40,7 @@ impl Clocks {
     }
 
     /// How many records a hart below 8 has so far.
+    #[inline(always)]
     pub fn count(&self, hart: u8) -> usize
         requires { hart < 8 }
         ensures { result ≡ length (slots self.now hart) }
@@ -61,6 +62,7 @@ impl Clocks {
     }
 
     // Which clock a record has.
+    #[inline(always)]
     fn slot(&self, hart: u8, number: u32) -> u32
         requires { hart < 8 }
         ensures { result ≡ slot_of self.now hart number }
@@ -75,6 +77,7 @@ impl Clocks {
     }
 
     // The clock that is kept there.
+    #[inline(always)]
     fn clock_in(&self, slot: u32) -> Clock
         ensures { (u : ℕ) → time result u ≡ time (kept_at self.now slot) u }
     {
@@ -125,6 +128,7 @@ impl Clocks {
     }
 
     // One more record of a hart.
+    #[inline(always)]
     fn push(&mut self, hart: u8, slot: u32) -> Result<(), NoMemory>
         requires { hart < 8 }
         ensures kept { self.new.kept ≡ self.old.kept }
@@ -137,6 +141,7 @@ impl Clocks {
     }
 
     // The same. Without memory only the first `count` clocks are kept.
+    #[inline(always)]
     fn add(&mut self, hart: u8, slot: u32, count: usize) -> Result<(), NoMemory>
         requires { hart < 8 }
         ensures kept { OnOk result (self.new.kept ≡ self.old.kept) }
@@ -166,6 +171,28 @@ impl Clocks {
         let (mut clock, _) = self.joined(self.clock_in(last), needs);
         clock.set(hart, number + 1);
         clock
+    }
+
+    /// Takes the next record, of this hart, which needs no record of another hart, and gives its clock. Without memory the
+    /// clocks stay as they were.
+    #[inline(always)]
+    pub fn next_alone(&mut self, hart: u8) -> Result<Clock, NoMemory>
+        requires hart { hart < 8 }
+        requires few { length (slots self.old hart) + 1 < 2 ^ 32 }
+        ensures ok { (harts : ℕ) (lines : List Line) (i : ℕ) (line : Line) →
+            IsFlow harts lines → harts ≤ 8 → HasClocks self.old lines i → IsNext lines i hart line →
+            no_arcs ≡ needs_of lines hart (records_before hart lines i + 1) →
+            IfOk result (λ clock. IsClock (Into lines) hart (records_before hart lines i + 1) (time clock)
+            × HasClocks self.new lines (i + 1) × (time clock hart ≡ records_before hart lines i + 1)) }
+        ensures err { OnErr result (HasSameClocks self.old self.new) }
+    {
+        let number = self.count(hart) as u32;
+        let last = self.slot(hart, number);
+        let mut clock = self.clock_in(last);
+        clock.set(hart, number + 1);
+        let count = self.clocks();
+        self.add(hart, last, count)?;
+        Ok(clock)
     }
 
     /// Takes the next record, of this hart, which needs these records of other harts, and gives its clock. Without

@@ -41,7 +41,7 @@ impl Row {
         }
     }
 
-    #[inline]
+    #[inline(always)]
     fn set(&mut self, store: bool, hart: u8, number: u32)
         requires { hart < 8 }
         ensures here { in_row self.new store hart ≡ number }
@@ -56,7 +56,7 @@ impl Row {
     }
 
     // The last access of a hart that a store conflicts with, or a load; 0 for none.
-    #[inline]
+    #[inline(always)]
     fn newest(&self, store: bool, hart: u8) -> u32
         requires { hart < 8 }
         ensures { result ≡ newest self.now store hart }
@@ -69,19 +69,28 @@ impl Row {
         }
     }
 
+    // Whether a clock knows the last access of a hart that conflicts, if it is another hart.
+    #[inline(always)]
+    fn knows(&self, store: bool, hart: u8, u: u8, clock: &Clock) -> bool
+        requires { u < 8 }
+        ensures yes { IsTrue result → (u ≡ hart → ⊥) → newest self.now store u ≤ time clock.now u }
+        ensures no { result ≡ false → (u ≡ hart → ⊥) × (time clock.now u < newest self.now store u) }
+    {
+        (u == hart) | (self.newest(store, u) <= clock.get(u))
+    }
+
     // Whether a clock knows the last access of each other hart that conflicts.
-    #[inline]
+    #[inline(always)]
     fn is_known(&self, store: bool, hart: u8, clock: &Clock) -> bool
         ensures yes { IsTrue result → (u : ℕ) → u < 8 → (u ≡ hart → ⊥) → newest self.now store u ≤ time clock.now u }
         ensures no { result ≡ false → (u : ℕ) × (u < 8) × (u ≡ hart → ⊥)
             × (time clock.now u < newest self.now store u) }
     {
+        let mut known = true;
         for u in 0..8u8 {
-            if u != hart && self.newest(store, u) > clock.get(u) {
-                return false;
-            }
+            known &= self.knows(store, hart, u, clock);
         }
-        true
+        known
     }
 
     // For each other hart the last access that conflicts.
@@ -140,7 +149,7 @@ impl LastAccesses {
         }
     }
 
-    #[inline]
+    #[inline(always)]
     fn slot(&self, block: u32) -> usize
         requires { block < length self.now.index.items }
         ensures { result ≡ slice_index self.now.index.items block }
@@ -156,6 +165,21 @@ impl LastAccesses {
         self.rows[slot]
     }
 
+    // Whether a clock knows the last access in a block of each other hart that conflicts.
+    #[inline(always)]
+    fn is_known(&self, block: u32, store: bool, hart: u8, clock: &Clock) -> bool
+        requires { block < length self.now.index.items }
+        ensures yes { IsTrue result → (u : ℕ) → u < 8 → (u ≡ hart → ⊥) →
+            newest (row_at self.now.index.items self.now.rows.items block) store u ≤ time clock.now u }
+        ensures no { result ≡ false → (u : ℕ) × (u < 8) × (u ≡ hart → ⊥)
+            × (time clock.now u < newest (row_at self.now.index.items self.now.rows.items block) store u) }
+    {
+        match self.rows.get(self.slot(block)) {
+            Some(row) => row.is_known(store, hart, clock),
+            None => true,
+        }
+    }
+
     // How many rows there are.
     #[inline]
     fn count(&self) -> usize
@@ -165,6 +189,7 @@ impl LastAccesses {
     }
 
     // Where the block's own row is, which is made if there is none.
+    #[inline(always)]
     fn own_row(&mut self, block: u32) -> Result<usize, NoMemory>
         requires { block < length self.old.index.items }
         ensures size { self.new.size ≡ self.old.size }
@@ -188,6 +213,7 @@ impl LastAccesses {
         Ok(count)
     }
 
+    #[inline(always)]
     fn note(&mut self, block: u32, store: bool, hart: u8, number: u32) -> Result<(), NoMemory>
         requires block { block < length self.old.index.items }
         requires hart { hart < 8 }
@@ -204,16 +230,17 @@ impl LastAccesses {
     }
 
     // The block of an address.
-    #[inline]
+    #[inline(always)]
     fn block(&self, addr: u32) -> u32
         requires { addr < MEMORY_BYTES }
         ensures block { result ≡ addr / self.now.size }
         ensures within { result < length self.now.index.items }
     {
-        addr / u32::from(self.size)
+        if self.size == 16 { addr / 16 } else { addr / 4 }
     }
 
     /// Takes the next line, which is record `number` of its hart. Without memory the table stays as it was.
+    #[inline(always)]
     pub fn pass(&mut self, line: &Line, number: u32) -> Result<(), NoMemory>
         requires { IsSoundLine 8 line.now }
         ensures ok { (size : ℕ) (lines : List Line) (i : ℕ) → HasLast self.old size lines i →
@@ -227,6 +254,7 @@ impl LastAccesses {
         }
     }
 
+    #[inline(always)]
     fn take(&mut self, event: &Event, number: u32) -> Result<(), NoMemory>
         requires { IsValidEvent event.now 8 }
         ensures ok { (size : ℕ) (lines : List Line) (i : ℕ) → HasLast self.old size lines i →
@@ -275,6 +303,7 @@ impl LastAccesses {
     }
 
     /// Whether a clock knows each record of another hart so far that conflicts with the next event by a block.
+    #[inline(always)]
     pub fn are_known(&self, event: &Event, clock: &Clock) -> bool
         requires { IsValidEvent event.now 8 }
         ensures yes { (size : ℕ) (lines : List Line) (i m : ℕ) → HasLast self.now size lines i →
@@ -290,15 +319,13 @@ impl LastAccesses {
                 rd: _,
                 rb: _,
                 addr,
-            } => self
-                .row(self.block(addr))
-                .is_known(false, event.hart, clock),
+            } => self.is_known(self.block(addr), false, event.hart, clock),
             Kind::St {
                 width: _,
                 rv: _,
                 rb: _,
                 addr,
-            } => self.row(self.block(addr)).is_known(true, event.hart, clock),
+            } => self.is_known(self.block(addr), true, event.hart, clock),
             _ => true,
         }
     }

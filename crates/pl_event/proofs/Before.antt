@@ -105,6 +105,15 @@ module _ (harts : ℕ) (g : List Line) (flow : IsFlow harts g) (i h : ℕ) (l : 
       (later_most (λ n. IsArc g u n h m) (λ n. IsNotice g u n h m ⊎ IsAfter g u n h m) a (later b c) (arcs_most u a x) (later_most (λ n. IsNotice g u n h m) (λ n. IsAfter g u n h m) b c y z))
       (need_most harts g flow u h m)
 
+  -- without a notice the arc is the need
+  pub need_alone : (u : ℕ) → ((n : ℕ) → (IsNotice g u n h (records_before h g i + 1) ⊎ IsAfter g u n h (records_before h g i + 1)) → ⊥)
+      → need_of g u h (records_before h g i + 1) ≡ arc_of l u
+  need_alone u none = sym (is_need u (arc_of l u) None None refl (λ k x. none k (inl x)) (λ k x. none k (inr x))) ∙ alone (arc_of l u)
+    where
+      alone : (a : Option ℕ) → later a None ≡ a
+      alone None = refl
+      alone (Some n) = refl
+
   -- the line is passed
   pub passed : (s : Heads) → Tells s g i → h < 8 → length s.records ≡ 8 → length s.open ≡ 8
       → (o : Option Point) (n p : ℕ) (es : List ℕ)

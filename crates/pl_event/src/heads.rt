@@ -1,5 +1,5 @@
 //! How far each hart of a log is, line by line.
-ghost use Rattle.std.specs.Prelude.{◌≡◌, ◌↔◌, ℕ, ◌+◌, ◌^◌, ◌<◌, List, slice_index, IsTrue};
+ghost use Rattle.std.specs.Prelude.{◌≡◌, ◌↔◌, ℕ, ◌+◌, ◌^◌, ◌<◌, ◌⊎◌, List, slice_index, IsTrue, false};
 ghost use Rattle.pl_event.specs.declared.log.Line.{Line};
 ghost use Rattle.pl_event.specs.Conflicts.{HasNotice};
 ghost use Rattle.pl_event.specs.Numbers.{hart_of};
@@ -54,6 +54,7 @@ impl Heads {
     }
 
     // The last record of hart u, if it is a notice of the next record of this hart.
+    #[inline(always)]
     fn notice(&self, hart: u8, u: u8) -> Option<u32>
         requires hart { hart < 8 }
         requires u { u < 8 }
@@ -75,6 +76,7 @@ impl Heads {
     }
 
     /// Whether hart u has a notice of the next record of this hart.
+    #[inline(always)]
     pub fn has_notice(&self, hart: u8, u: u8) -> bool
         requires hart { hart < 8 }
         requires u { u < 8 }
@@ -87,6 +89,7 @@ impl Heads {
     }
 
     // The record of hart u whose notice is the last record of this hart.
+    #[inline(always)]
     fn noticed(&self, hart: u8, u: u8) -> Option<u32>
         requires hart { hart < 8 }
         requires u { u < 8 }
@@ -98,6 +101,32 @@ impl Heads {
             None => None,
             Some(of) => { if of.hart == u { Some(of.number) } else { None } }
         }
+    }
+
+    /// Whether no notice bears on the next record, of this hart: its hart's last record is no notice, and no hart has a
+    /// notice of it.
+    #[inline(always)]
+    pub fn is_unnoticed(&self, hart: u8) -> bool
+        requires hart { hart < 8 }
+        requires few { slice_index self.now.records hart + 1 < 2 ^ 32 }
+        ensures yes { IsTrue result → (harts : ℕ) (lines : List Line) (i : ℕ) (line : Line) →
+            IsFlow harts lines → Tells self.now lines i → IsNext lines i hart line → (u n : ℕ) → u < 8 →
+            (IsNotice lines u n hart (records_before hart lines i + 1)
+            ⊎ IsAfter lines u n hart (records_before hart lines i + 1)) → ⊥ }
+        ensures no { result ≡ false → (harts : ℕ) (lines : List Line) (i : ℕ) (line : Line) →
+            IsFlow harts lines → Tells self.now lines i → IsNext lines i hart line → (u : ℕ) × (n : ℕ) ×
+            (IsNotice lines u n hart (records_before hart lines i + 1)
+            ⊎ IsAfter lines u n hart (records_before hart lines i + 1)) }
+    {
+        for u in 0..8u8 {
+            if self.notice(hart, u).is_some() {
+                return false;
+            }
+            if self.noticed(hart, u).is_some() {
+                return false;
+            }
+        }
+        true
     }
 
     // What the next line, of this hart, needs of hart u.
@@ -115,6 +144,27 @@ impl Heads {
         )
     }
 
+    // The same, where it may be known that no notice bears on the line.
+    #[inline(always)]
+    fn need_beside(&self, is_unnoticed: bool, line: &Line, hart: u8, u: u8) -> Option<u32>
+        requires hart { hart < 8 }
+        requires u { u < 8 }
+        requires few { slice_index self.now.records hart + 1 < 2 ^ 32 }
+        requires alone { IsTrue is_unnoticed → (harts : ℕ) (lines : List Line) (i : ℕ) →
+            IsFlow harts lines → Tells self.now lines i → IsNext lines i hart line.now → (n : ℕ) →
+            (IsNotice lines u n hart (records_before hart lines i + 1)
+            ⊎ IsAfter lines u n hart (records_before hart lines i + 1)) → ⊥ }
+        ensures { (harts : ℕ) (lines : List Line) (i : ℕ) →
+            IsFlow harts lines → Tells self.now lines i → IsNext lines i hart line.now →
+            result ≡ need_of lines u hart (records_before hart lines i + 1) }
+    {
+        if is_unnoticed {
+            line.arcs.get(u)
+        } else {
+            self.need(line, hart, u)
+        }
+    }
+
     /// What the next line, of this hart, needs of each hart.
     pub fn needs(&self, line: &Line, hart: u8) -> Arcs
         requires hart { hart < 8 }
@@ -123,9 +173,10 @@ impl Heads {
             IsFlow harts lines → Tells self.now lines i → IsNext lines i hart line.now →
             result ≡ needs_of lines hart (records_before hart lines i + 1) }
     {
+        let is_unnoticed = self.is_unnoticed(hart);
         let mut needs = Arcs::none();
         for u in 0..8u8 {
-            needs.set(u, self.need(line, hart, u));
+            needs.set(u, self.need_beside(is_unnoticed, line, hart, u));
         }
         needs
     }
@@ -159,6 +210,7 @@ impl Heads {
     }
 
     /// Takes the next line.
+    #[inline(always)]
     pub fn pass(&mut self, line: &Line)
         requires hart { hart_of line.now.what < 8 }
         requires records { slice_index self.old.records (hart_of line.now.what) + 1 < 2 ^ 32 }

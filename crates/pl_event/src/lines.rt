@@ -1,23 +1,23 @@
-//! The lines of a log, packed.
+//! The lines of a log.
 ghost use Rattle.std.specs.Prelude.{◌≡◌, ◌<◌, ◌≤◌, length};
 ghost use Rattle.pl_event.specs.inner.Rows.{arcs_at};
 
 use crate::log::{Arcs, Line, Record};
-use crate::packed::{Packed, pack, unpack};
 use crate::slots::next_slot;
 use std::alloc::{AllocError, Global};
 use std::marker::Model;
 
-/// A record in 16 bytes, with the slot of its arcs.
+/// A record with the slot of its arcs, in 24 bytes. It is kept as it is read, since a shorter form costs more time than
+/// its memory does.
 #[derive(Clone, Copy)]
 pub struct Row {
-    what: Packed,
+    what: Record,
     slot: u32,
 }
 
 /// Lines, in order.
 ///
-/// Records lie side by side, and the arcs of the lines that have any are kept apart, so a line without takes 16 bytes.
+/// Records lie side by side, and the arcs of the lines that have any are kept apart, so a line without takes 24 bytes.
 #[derive(Drop)]
 pub struct Lines {
     rows: Vec<Row>,
@@ -50,7 +50,7 @@ fn arcs_of(arcs: &[Arcs], slot: u32) -> Arcs
 }
 
 impl Lines {
-    ghost use Rattle.std.specs.Prelude.{[], ◌∷◌, ◌++◌, OnOk, OnErr, Some, IsTrue, ◌↔◌, slice_get, slice_index_or};
+    ghost use Rattle.std.specs.Prelude.{[], ◌∷◌, ◌++◌, OnOk, OnErr, Some, IfSome, IsTrue, ◌↔◌, slice_get, slice_index_or};
     ghost use Rattle.pl_event.specs.Edges.{no_arcs};
     ghost use Rattle.pl_event.specs.declared.log.Line.{Line};
 
@@ -85,7 +85,7 @@ impl Lines {
     {
         let Row { what, slot } = self.rows[i];
         Line {
-            what: unpack(what),
+            what,
             arcs: arcs_of(&self.arcs, slot),
         }
     }
@@ -96,19 +96,26 @@ impl Lines {
         requires { i < length self.now }
         ensures { (other : Line) → result ≡ (slice_index_or self.now i other).what }
     {
-        unpack(self.rows[i].what)
+        self.rows[i].what
+    }
+
+    /// The record of line `i`, counted from 0, where it was kept without arcs.
+    #[inline(always)]
+    pub fn bare(&self, i: usize) -> Option<Record>
+        requires { i < length self.now }
+        ensures { IfSome result (λ what. slice_get self.now i ≡ Some (record { what = what; arcs = no_arcs })) }
+    {
+        let Row { what, slot } = self.rows[i];
+        if slot == 0 { Some(what) } else { None }
     }
 
     /// One more record at the end, without arcs. Without memory the lines stay.
-    #[inline]
+    #[inline(always)]
     pub fn push_record(&mut self, what: Record) -> Result<(), AllocError>
         ensures ok { OnOk result (self.new ≡ self.old ++ record { what = what; arcs = no_arcs } ∷ []) }
         ensures err { OnErr result (self.new ≡ self.old) }
     {
-        self.rows.push(Row {
-            what: pack(what),
-            slot: 0,
-        })?;
+        self.rows.push(Row { what, slot: 0 })?;
         Ok(())
     }
 
@@ -123,7 +130,7 @@ impl Lines {
         self.rows.reserve(1)?;
         self.arcs.push(line.arcs)?;
         self.rows.push(Row {
-            what: pack(line.what),
+            what: line.what,
             slot,
         })?;
         Ok(())

@@ -42,6 +42,7 @@ impl Arcs {
     ghost use Rattle.std.specs.Prelude.{slice_set, slice_index_or, length};
 
     /// No hart has a number.
+    #[inline(always)]
     pub fn none() -> Arcs
         ensures { result ≡ replicate 8 None }
     {
@@ -49,6 +50,7 @@ impl Arcs {
     }
 
     /// The number of a hart below 8.
+    #[inline(always)]
     pub fn get(&self, hart: u8) -> Option<u32>
         requires { hart < 8 }
         ensures { result ≡ slice_index_or self.now hart None }
@@ -57,6 +59,7 @@ impl Arcs {
     }
 
     /// Changes the number of a hart below 8.
+    #[inline(always)]
     pub fn set(&mut self, hart: u8, n: Option<u32>)
         requires { hart < 8 }
         ensures { self.new ≡ slice_set self.old hart n }

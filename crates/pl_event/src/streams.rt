@@ -8,6 +8,7 @@ use pl_base::NoMemory;
 use std::alloc::Global;
 
 /// The hart of whose stream a record is.
+#[inline(always)]
 pub fn record_hart(what: &Record) -> u8
     ensures { result ≡ hart_of what.now }
 {

@@ -3,14 +3,13 @@ use Rattle.std.specs.Prelude.{ℕ, ◌≤◌, List, ◌∷◌, Option, slice_ind
 use Rattle.pl_event.specs.declared.log.Line.{Line}
 use Rattle.pl_event.specs.declared.lines.Row.{Row}
 use Rattle.pl_event.specs.Edges.{no_arcs}
-use Rattle.pl_event.specs.inner.Packing.{record_from}
 
 -- slot 0 is for no arcs, and slot k + 1 for item k of the list
 abbrev pub arcs_at : List (List (Option ℕ)) → ℕ → List (Option ℕ)
 arcs_at arcs slot = slice_index_or (no_arcs ∷ arcs) slot no_arcs
 
 abbrev pub line_from : List (List (Option ℕ)) → Row → Line
-line_from arcs row = record { what = record_from row.what; arcs = arcs_at arcs row.slot }
+line_from arcs row = record { what = row.what; arcs = arcs_at arcs row.slot }
 
 abbrev pub lines_from : List (List (Option ℕ)) → List Row → List Line
 lines_from arcs rows = map (line_from arcs) rows

@@ -16,7 +16,7 @@ returns-in-Ld-clause-yes c size lines i m has is known u k low shares =
     dite (ℕ_discrete u b.hart)
     (λ e. absurd (own_none c.args.self.now size lines i m has b is k (subst (λ (z : ℕ). Shares size lines z k b.hart m) e shares)))
     (λ ne. all_known c.args.self.now size lines i m has b is c.block.result false (ap (access_of size) c.in-Ld.is ∙ (λ d. Some (record { block = sym block d; store = false }))) u ne (time c.args.clock.now u)
-    (subst (λ (z : Row). newest z false u ≤ time c.args.clock.now u) c.row.ensures (c.is_known.ensures.yes known u low ne)) k shares)
+    (c.is_known.ensures.yes known u low ne) k shares)
 
 pub returns-in-St-clause-yes : goal.returns-in-St-clause-yes
 returns-in-St-clause-yes c size lines i m has is known u k low shares =
@@ -25,7 +25,7 @@ returns-in-St-clause-yes c size lines i m has is known u k low shares =
     dite (ℕ_discrete u b.hart)
     (λ e. absurd (own_none c.args.self.now size lines i m has b is k (subst (λ (z : ℕ). Shares size lines z k b.hart m) e shares)))
     (λ ne. all_known c.args.self.now size lines i m has b is c.block-in-St.result true (ap (access_of size) c.in-St.is ∙ (λ d. Some (record { block = sym block d; store = true }))) u ne (time c.args.clock.now u)
-    (subst (λ (z : Row). newest z true u ≤ time c.args.clock.now u) c.row-in-St.ensures (c.is_known-in-St.ensures.yes known u low ne)) k shares)
+    (c.is_known-in-St.ensures.yes known u low ne) k shares)
 
 pub returns-in_default-clause-yes : goal.returns-in_default-clause-yes
 returns-in_default-clause-yes c size lines i m has is known u k low shares =
@@ -37,7 +37,7 @@ returns-in-Ld-clause-no c size lines i m has is fails all =
     let block : c.block.result ≡ c.in-Ld.addr / size = c.block.ensures.block ∙ ap (λ (z : ℕ). c.in-Ld.addr / z) has.sized in
     let t = c.is_known.ensures.no fails in
     one_unknown c.args.self.now size lines i m has b is c.block.result false (ap (access_of size) c.in-Ld.is ∙ (λ d. Some (record { block = sym block d; store = false }))) t.0 t.2 (time c.args.clock.now t.0)
-    (subst (λ (z : Row). time c.args.clock.now t.0 < newest z false t.0) c.row.ensures t.3) (λ k s. all t.0 k t.1 s)
+    t.3 (λ k s. all t.0 k t.1 s)
 
 pub returns-in-St-clause-no : goal.returns-in-St-clause-no
 returns-in-St-clause-no c size lines i m has is fails all =
@@ -45,4 +45,4 @@ returns-in-St-clause-no c size lines i m has is fails all =
     let block : c.block-in-St.result ≡ c.in-St.addr / size = c.block-in-St.ensures.block ∙ ap (λ (z : ℕ). c.in-St.addr / z) has.sized in
     let t = c.is_known-in-St.ensures.no fails in
     one_unknown c.args.self.now size lines i m has b is c.block-in-St.result true (ap (access_of size) c.in-St.is ∙ (λ d. Some (record { block = sym block d; store = true }))) t.0 t.2 (time c.args.clock.now t.0)
-    (subst (λ (z : Row). time c.args.clock.now t.0 < newest z true t.0) c.row-in-St.ensures t.3) (λ k s. all t.0 k t.1 s)
+    t.3 (λ k s. all t.0 k t.1 s)

@@ -23,17 +23,21 @@ row f xs long each = ext_get_or None xs (map f eight_harts) long (λ u l. each u
 
 pub loop-u-preserved : goal.loop-u-preserved
 loop-u-preserved c = (
-  ap (λ (z : List (Option ℕ)). length z) c.set.ensures ∙ (length-set c.loop-u.needs c.loop-u.u c.need.result ∙ c.loop-u.invariant.0),
+  ap (λ (z : List (Option ℕ)). length z) c.set.ensures ∙ (length-set c.loop-u.needs c.loop-u.u c.need_beside.result ∙ c.loop-u.invariant.0),
   λ harts g i flow st next u l.
       let h = c.args.hart in
       let P : ℕ → Option ℕ → Type 0 = λ u o. o ≡ need_of g u h (records_before h g i + 1) in
       let low : c.loop-u.u < 8 = c.loop-u-test.true in
       let long : length c.loop-u.needs ≡ 8 = c.loop-u.invariant.0 in
       ap (λ (z : List (Option ℕ)). get_or z u None) c.set.ensures ∙ dite (ℕ_discrete u c.loop-u.u)
-      (λ e. subst (λ (z : ℕ). P z (slice_index_or (set c.loop-u.needs c.loop-u.u c.need.result) z None)) (sym e)
-      (subst (P c.loop-u.u) (sym (get_or-set_same c.loop-u.needs c.loop-u.u c.need.result None (omega arith))) (c.need.ensures harts g i flow st next)))
-      (λ ne. subst (P u) (sym (get_or-set_other c.loop-u.needs c.loop-u.u u c.need.result None ne)) (c.loop-u.invariant.1 harts g i flow st next u (omega arith))),
+      (λ e. subst (λ (z : ℕ). P z (slice_index_or (set c.loop-u.needs c.loop-u.u c.need_beside.result) z None)) (sym e)
+      (subst (P c.loop-u.u) (sym (get_or-set_same c.loop-u.needs c.loop-u.u c.need_beside.result None (omega arith))) (c.need_beside.ensures harts g i flow st next)))
+      (λ ne. subst (P u) (sym (get_or-set_other c.loop-u.needs c.loop-u.u u c.need_beside.result None ne)) (c.loop-u.invariant.1 harts g i flow st next u (omega arith))),
 )
 
 pub returns : goal.returns
 returns c harts g i flow st next = row (λ u. need_of g u c.args.hart (records_before c.args.hart g i + 1)) c.loop-u.needs c.loop-u.invariant.0 (λ u l. c.loop-u.invariant.1 harts g i flow st next u (let z : 8 ≤ c.loop-u.u = c.loop-u-test.false in omega arith))
+
+pub need_beside-requires-clause-alone : goal.need_beside-requires-clause-alone
+need_beside-requires-clause-alone c t harts g i flow st next n source =
+    c.is_unnoticed-is_unnoticed.ensures.yes t harts g i c.args.line.now flow st next c.loop-u.u n c.loop-u-test.true source

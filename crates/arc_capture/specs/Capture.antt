@@ -1,6 +1,6 @@
 -- What a capture knows of the lines so far.
 use Rattle.std.specs.Prelude.{◌≡◌, ℕ, ◌+◌, ◌<◌, [], ◌∷◌, ◌++◌, List, length, Option, None, slice_index_or}
-use Rattle.pl_base.specs.declared.layout.TheConstants.{MAX_HARTS}
+use Rattle.pl_base.specs.declared.layout.TheConstants.{MAX_HARTS, MAX_LINES}
 use Rattle.pl_event.specs.declared.log.Line.{Line}
 use Rattle.pl_event.specs.Candidates.{Shares}
 use Rattle.pl_event.specs.Needs.{IsMost}
@@ -9,7 +9,6 @@ use Rattle.pl_event.specs.Runs.{IsSoundLine}
 use Rattle.conflict_alerts.specs.Placer.{Counts}
 use Rattle.conflict_alerts.specs.Placing.{count_in}
 use Rattle.log_clocks.specs.LastAccesses.{HasLast, HasSameTable}
-use Rattle.arc_reduce.specs.declared.reducer.TheConstants.{MAX_LINES}
 use Rattle.arc_capture.specs.declared.capture.Capture.{Capture}
 
 -- these are the lines that were given

@@ -1,10 +1,9 @@
 -- What a marker knows of the lines so far.
 use Rattle.std.specs.Prelude.{◌≡◌, ℕ, ◌<◌, ◌≤◌, ◌∷◌, ◌++◌, [], List, length}
-use Rattle.pl_base.specs.declared.layout.TheConstants.{MAX_HARTS}
+use Rattle.pl_base.specs.declared.layout.TheConstants.{MAX_HARTS, MAX_LINES}
 use Rattle.pl_event.specs.declared.log.Line.{Line}
 use Rattle.pl_event.specs.Edges.{no_arcs, IsFlow}
 use Rattle.pl_event.specs.Runs.{IsSoundLine}
-use Rattle.arc_reduce.specs.declared.reducer.TheConstants.{MAX_LINES}
 use Rattle.arc_reduce.specs.Drawn.{HaveEight}
 use Rattle.arc_reduce.specs.Reduction.{IsReduced}
 use Rattle.arc_reduce.specs.Taken.{HasTaken}

@@ -1,6 +1,6 @@
 -- What a recorder knows of the events so far.
 use Rattle.std.specs.Prelude.{◌≡◌, ℕ, ◌+◌, ◌<◌, ◌≤◌, ◌++◌, All, List, length}
-use Rattle.pl_base.specs.declared.layout.TheConstants.{MAX_HARTS}
+use Rattle.pl_base.specs.declared.layout.TheConstants.{MAX_HARTS, MAX_LINES, MAX_RECORDS}
 use Rattle.pl_event.specs.declared.event.Event.{Event}
 use Rattle.pl_event.specs.declared.log.Line.{Line}
 use Rattle.pl_event.specs.declared.log.Record.{Record}
@@ -9,10 +9,8 @@ use Rattle.pl_event.specs.Edges.{no_arcs, IsFlow}
 use Rattle.pl_event.specs.Runs.{IsSoundLine}
 use Rattle.pl_event.specs.Valid.{IsValidEvent}
 use Rattle.conflict_alerts.specs.declared.placer.Placer.{Placer}
-use Rattle.conflict_alerts.specs.declared.placer.TheConstants.{MAX_EVENTS}
 use Rattle.conflict_alerts.specs.Placer.{HasPlaced}
 use Rattle.conflict_alerts.specs.Placing.{placed}
-use Rattle.arc_reduce.specs.declared.reducer.TheConstants.{MAX_LINES}
 use Rattle.arc_capture.specs.declared.marker.Marker.{Marker}
 use Rattle.arc_capture.specs.Marker.{HasMarked}
 
@@ -34,14 +32,14 @@ IsValidRecord harts (entry.Notice hart point) = Unit {0}
 pub record MayFeed (placer : Placer) (marker : Marker) (size : ℕ)
     (events : List Event) (lines : List Line) (event : Event) : Type 0 where
   pub has : HasRecorded placer marker size events lines
-  pub few : length events < MAX_EVENTS
+  pub few : length events < MAX_RECORDS
   pub valid : IsValidEvent event placer.harts
 
 -- the event of the record may be the next one; a notice has none
 pub record MayRecord (placer : Placer) (marker : Marker) (size : ℕ)
     (events : List Event) (lines : List Line) (what : Record) : Type 0 where
   pub has : HasRecorded placer marker size events lines
-  pub few : length events < MAX_EVENTS
+  pub few : length events < MAX_RECORDS
   pub valid : IsValidRecord placer.harts what
 
 -- these lines may be the next ones

@@ -1,6 +1,6 @@
 -- What a reducer has taken.
 use Rattle.std.specs.Prelude.{◌≡◌, ℕ, ◌+◌, ◌<◌, ◌≤◌, ◌++◌, [], ◌∷◌, List, length, Option}
-use Rattle.pl_base.specs.declared.layout.TheConstants.{MAX_HARTS}
+use Rattle.pl_base.specs.declared.layout.TheConstants.{MAX_HARTS, MAX_LINES}
 use Rattle.pl_event.specs.declared.log.Line.{Line}
 use Rattle.pl_event.specs.Edges.{IsFlow, no_arcs}
 use Rattle.pl_event.specs.Heads.{Tells}
@@ -8,7 +8,6 @@ use Rattle.pl_event.specs.Numbers.{hart_of}
 use Rattle.pl_event.specs.Records.{records_before}
 use Rattle.log_clocks.specs.Clocks.{HasClocks, HasSameClocks}
 use Rattle.arc_reduce.specs.declared.reducer.Reducer.{Reducer}
-use Rattle.arc_reduce.specs.declared.reducer.TheConstants.{MAX_LINES}
 
 abbrev pub with_arcs : Line → List (Option ℕ) → Line
 with_arcs line arcs = record { what = line.what; arcs = arcs }

@@ -10,4 +10,4 @@ mod laws;
 mod reducer;
 
 pub use laws::{drawn_candidates, grown_reduction, recorded_logs, reduced_logs};
-pub use reducer::{MAX_LINES, Reducer};
+pub use reducer::Reducer;

@@ -11,9 +11,6 @@ use pl_base::NoMemory;
 use pl_event::{Arcs, Heads, Line, record_hart};
 use std::alloc::Global;
 
-/// How many lines a reducer takes, at most.
-pub const MAX_LINES: u32 = 16_000_000;
-
 /// The heads and the clocks of the lines taken so far, with all their candidates as arcs.
 #[derive(Drop)]
 pub struct Reducer {
@@ -115,7 +112,7 @@ impl Reducer {
     /// The candidates of the next line that its log keeps as arcs: all but those whose source reaches the line by a
     /// path that does not use them, where the line has its other candidates too. The line has no arcs, is of a hart of
     /// the run and breaks no rule of notices; a candidate is an earlier record of another hart, and fewer than
-    /// `MAX_LINES` lines were taken. Without memory the reducer stays as it was.
+    /// 16,000,000 lines were taken. Without memory the reducer stays as it was.
     pub fn keep(&mut self, line: &Line, candidates: &Arcs) -> Result<Arcs, NoMemory>
         requires { (full : List Line) × MayTake self.old full line.now candidates.now }
         ensures ok { (full : List Line) → MayTake self.old full line.now candidates.now → IfOk result (λ kept.

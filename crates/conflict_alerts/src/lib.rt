@@ -9,4 +9,4 @@ mod laws;
 mod placer;
 
 pub use laws::{placed_events, placed_logs, placed_notices};
-pub use placer::{MAX_EVENTS, Placer};
+pub use placer::Placer;

@@ -10,9 +10,6 @@ use pl_base::NoMemory;
 use pl_event::{Arcs, Event, Kind, Line, Point, Record, is_alert, record_hart};
 use std::alloc::Global;
 
-/// How many events a placer takes, at most.
-pub const MAX_EVENTS: u32 = 2_000_000;
-
 /// How many records each hart of a run has so far.
 #[derive(Drop)]
 pub struct Placer {
@@ -122,7 +119,7 @@ impl Placer {
 
     /// Adds the lines of the next event after those that are there: its own line without arcs, and before it, if it is
     /// an alert event, a notice in each other hart by rising hart. The event is of a hart of the run, and fewer than
-    /// `MAX_EVENTS` were placed. Without memory the placer stays as it was; some of the lines may have been added.
+    /// 2,000,000 were placed. Without memory the placer stays as it was; some of the lines may have been added.
     pub fn place_into(&mut self, event: &Event, lines: &mut Vec<Line>) -> Result<(), NoMemory>
         requires { (events : List Event) × MayPlace self.old events event.now }
         ensures ok { (events : List Event) → MayPlace self.old events event.now → IfOk result (λ _.

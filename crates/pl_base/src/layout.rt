@@ -83,3 +83,12 @@ pub const MAX_RECORDS: u32 = 2_000_000;
 
 /// How many bytes the text of a log has, at most: 64 MiB.
 pub const MAX_LOG_BYTES: u32 = 67_108_864;
+
+/// How many lines a recorder makes, at most: each event has its own, and a notice in each other hart.
+pub const MAX_LINES: u32 = 16_000_000;
+
+/// How many records of a hart's stream lie in one chunk, at most.
+pub const CHUNK_RECORDS: usize = 64;
+
+/// How many chunks a ring has room for.
+pub const RING_CHUNKS: usize = 16;

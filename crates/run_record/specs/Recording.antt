@@ -1,6 +1,6 @@
 -- A run that is recorded step by step.
 use Rattle.std.specs.Prelude.{◌≡◌, ◌+◌, ◌≤◌, All, List, length}
-use Rattle.pl_base.specs.declared.layout.TheConstants.{BLOCK_BYTES}
+use Rattle.pl_base.specs.declared.layout.TheConstants.{BLOCK_BYTES, MAX_RECORDS}
 use Rattle.pl_event.specs.declared.event.Event.{Event}
 use Rattle.pl_event.specs.declared.log.Line.{Line}
 use Rattle.pl_event.specs.Valid.{IsValidEvent}
@@ -9,7 +9,6 @@ use Rattle.core_sim.specs.Entries.{Entry}
 use Rattle.core_sim.specs.RunEvents.{events_of_run}
 use Rattle.core_sim.specs.Runs.{IsEnded, IsRun}
 use Rattle.core_sim.specs.Stands.{Stands}
-use Rattle.conflict_alerts.specs.declared.placer.TheConstants.{MAX_EVENTS}
 use Rattle.arc_capture.specs.declared.recorder.Recorder.{Recorder}
 use Rattle.arc_capture.specs.Recorder.{HasRecorded}
 use Rattle.run_record.specs.declared.recording.Recording.{Recording}
@@ -22,7 +21,7 @@ HasLines recorder events lines = HasRecorded recorder.placer recorder.marker BLO
 -- these events may be the next ones
 pub record MayFeedAll (recorder : Recorder) (events : List Event) (lines : List Line) (more : List Event) : Type 0 where
   pub has : HasLines recorder events lines
-  pub few : length events + length more ≤ MAX_EVENTS
+  pub few : length events + length more ≤ MAX_RECORDS
   pub valid : All (λ event. IsValidEvent event recorder.placer.harts) more
 
 -- the machine is somewhere in the run of the job, and these are the lines of its events so far

@@ -5,7 +5,7 @@ use lib.ListN.{get_elem?}
 use Rattle.pl_event.specs.declared.fed.Fed.{Fed}
 use Rattle.pl_event.specs.declared.log.Log.{Log}
 use Rattle.pl_event.specs.Feeds.{feds_of}
-use Rattle.stream_ring.specs.declared.limits.TheConstants.{CHUNK_RECORDS}
+use Rattle.pl_base.specs.declared.layout.TheConstants.{CHUNK_RECORDS}
 use Rattle.stream_ring.specs.declared.view.View.{View}
 
 -- the stream of a hart in a run

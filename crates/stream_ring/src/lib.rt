@@ -8,7 +8,6 @@
 
 mod chunk;
 mod ends;
-mod limits;
 mod ring;
 mod rule;
 mod run_name;
@@ -16,7 +15,6 @@ mod view;
 
 pub use chunk::Chunk;
 pub use ends::{Ring, SendPass, TakePass};
-pub use limits::{CHUNK_RECORDS, RING_CHUNKS};
 pub use rule::InOrder;
 pub use run_name::RunName;
 pub use view::View;

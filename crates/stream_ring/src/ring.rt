@@ -1,17 +1,16 @@
 //! The calls of a ring.
 ghost use Rattle.std.specs.Prelude.{◌≡◌, ◌<◌, [], ◌++◌, IfOk, MatchResult, MatchOption};
 ghost use Rattle.crossbeam_queue.specs.Fifo.{Held};
-ghost use Rattle.pl_base.specs.declared.layout.TheConstants.{MAX_HARTS};
-ghost use Rattle.stream_ring.specs.declared.limits.TheConstants.{RING_CHUNKS};
+ghost use Rattle.pl_base.specs.declared.layout.TheConstants.{MAX_HARTS, RING_CHUNKS};
 ghost use Rattle.stream_ring.specs.Flow.{stream_of, IsNext, SomeGot, SomeSent};
 ghost use Rattle.stream_ring.specs.Passes.{offered, taken, IsSendOf, IsTakeOf};
 
 use crate::chunk::Chunk;
 use crate::ends::{Queue, Ring, SendPass, TakePass};
-use crate::limits::RING_CHUNKS;
 use crate::rule::{Ends, Offer, Take};
 use crate::run_name::RunName;
 use pl_base::NoMemory;
+use pl_base::layout::RING_CHUNKS;
 use std::alloc::Global;
 use std::marker::PhantomData;
 use std::sync::Wait;

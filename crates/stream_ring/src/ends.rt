@@ -1,8 +1,7 @@
 //! The ring and its two passes.
 ghost use Rattle.std.specs.Prelude.{◌≡◌, ◌<◌};
 ghost use Rattle.crossbeam_queue.specs.Passes.{view, ruled_capacity};
-ghost use Rattle.pl_base.specs.declared.layout.TheConstants.{MAX_HARTS};
-ghost use Rattle.pl_base.specs.declared.layout.TheConstants.{RING_CHUNKS};
+ghost use Rattle.pl_base.specs.declared.layout.TheConstants.{MAX_HARTS, RING_CHUNKS};
 ghost use Rattle.stream_ring.specs.Flow.{sender, taker};
 
 use crate::chunk::Chunk;

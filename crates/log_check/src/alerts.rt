@@ -53,6 +53,7 @@ impl AlertWatch {
     }
 
     /// Whether the next event may conflict by an alert with one that is not ordered before it.
+    #[inline(always)]
     pub(crate) fn suspects(&self, heads: &Heads, event: &Event) -> bool
         requires hart { event.now.hart < 8 }
         requires few { slice_index heads.now.records event.now.hart + 1 < 2 ^ 32 }
@@ -71,6 +72,7 @@ impl AlertWatch {
     }
 
     // Marks the harts that have no notice of the next record of this hart, an alert event.
+    #[inline(never)]
     fn miss(&mut self, heads: &Heads, hart: u8)
         requires hart { hart < 8 }
         requires few { slice_index heads.now.records hart + 1 < 2 ^ 32 }
@@ -89,6 +91,7 @@ impl AlertWatch {
         }
     }
 
+    #[inline(always)]
     fn take(&mut self, heads: &Heads, event: &Event)
         requires hart { event.now.hart < 8 }
         requires few { slice_index heads.now.records event.now.hart + 1 < 2 ^ 32 }
@@ -104,6 +107,7 @@ impl AlertWatch {
     }
 
     /// Takes the next line.
+    #[inline(always)]
     pub(crate) fn pass(&mut self, heads: &Heads, line: &Line)
         requires hart { hart_of line.now.what < 8 }
         requires few { slice_index heads.now.records (hart_of line.now.what) + 1 < 2 ^ 32 }

@@ -49,7 +49,7 @@ fn first_unordered(alloc: Global, log: &Log) -> Result<Option<UnorderedPair>, No
 {
     let mut check = OrderCheck::new(alloc, log.block)?;
     for at in 0..log.lines.len() {
-        let found = check.pass(log, at, &log.lines.get(at))?;
+        let found = check.pass_at(log, at)?;
         if found.is_some() {
             return Ok(found);
         }

@@ -118,6 +118,7 @@ impl Later {
 
     /// The earliest event that conflicts with this one, which is at a position of the log, and is not ordered before
     /// it. `now` are the heads before the position.
+    #[inline(never)]
     pub(crate) fn earliest_partner(&self, log: &Log, at: usize, now: &Heads) -> Option<Point>
         requires at { at < length log.now.lines }
         requires few { length log.now.lines < 2 ^ 32 }

@@ -108,7 +108,7 @@ fn unless(kept: bool, cause: LogCause) -> Option<LogCause>
 }
 
 /// Whether the record is of a hart that the run does not have, or names one.
-#[inline]
+#[inline(always)]
 fn is_past_harts(tally: &Tally, what: Record, has_arcs: bool, list: &ArcList) -> bool
     ensures { (before : List Entry) (arcs : List Point) → Keeps tally.now before →
         ShowsPoints has_arcs list.now arcs → result ≡ breaks_hart tally.now.harts what arcs }
@@ -116,7 +116,7 @@ fn is_past_harts(tally: &Tally, what: Record, has_arcs: bool, list: &ArcList) ->
     names_past(tally.harts, what) || is_list_past(tally.harts, has_arcs, list)
 }
 
-#[inline]
+#[inline(always)]
 fn names_past(harts: u8, what: Record) -> bool
     ensures { result ≡ names_past harts what }
 {
@@ -126,7 +126,7 @@ fn names_past(harts: u8, what: Record) -> bool
     }
 }
 
-#[inline]
+#[inline(always)]
 fn is_list_past(harts: u8, has_arcs: bool, list: &ArcList) -> bool
     ensures { (arcs : List Point) → 1 ≤ harts → ShowsPoints has_arcs list.now arcs →
         result ≡ list_any (λ point. nat_le harts point.hart) arcs }
@@ -135,7 +135,7 @@ fn is_list_past(harts: u8, has_arcs: bool, list: &ArcList) -> bool
 }
 
 /// Whether an event follows the end of its hart.
-#[inline]
+#[inline(always)]
 fn is_after_end(tally: &Tally, what: Record) -> bool
     ensures { (before : List Entry) → Keeps tally.now before → names_past tally.now.harts what ≡ false →
         result ≡ breaks_ended before what }
@@ -147,7 +147,7 @@ fn is_after_end(tally: &Tally, what: Record) -> bool
 }
 
 /// Whether a notice of the hart waits for its event.
-#[inline]
+#[inline(always)]
 fn is_open(tally: &Tally, hart: u8) -> bool
     ensures { (before : List Entry) → Keeps tally.now before → hart < 8 → result ≡ is_waiting before hart }
 {
@@ -158,7 +158,7 @@ fn is_open(tally: &Tally, hart: u8) -> bool
 }
 
 /// Whether a record has not come.
-#[inline]
+#[inline(always)]
 fn is_to_come(tally: &Tally, of: Point) -> bool
     ensures { (before : List Entry) → Keeps tally.now before → of.hart < 8 →
         result ≡ nat_lt (records_in of.hart before) of.number }
@@ -207,7 +207,7 @@ fn is_bad_record(tally: &Tally, what: Record) -> bool
     is_bad_notice(tally, what) || (is_expected(tally, record_hart(&what)) && !is_alert_record(what))
 }
 
-#[inline]
+#[inline(always)]
 fn is_bad_notice(tally: &Tally, what: Record) -> bool
     ensures { (before : List Entry) → Keeps tally.now before → names_past tally.now.harts what ≡ false →
         result ≡ is_bad_notice before what }
@@ -228,7 +228,7 @@ fn is_alert_record(what: Record) -> bool
 }
 
 /// Whether a notice names the next record of the hart.
-#[inline]
+#[inline(always)]
 fn is_expected(tally: &Tally, hart: u8) -> bool
     ensures { (before : List Entry) → Keeps tally.now before → hart < 8 → result ≡ is_awaited before hart }
 {

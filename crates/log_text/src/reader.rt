@@ -168,6 +168,7 @@ impl LogReader {
     }
 
     /// The row that was read last, with its arcs.
+    #[inline(always)]
     pub fn line(&self, row: &Row) -> Line
         ensures { result ≡ line_of self.now row.now }
     {
@@ -182,7 +183,7 @@ impl LogReader {
     }
 
     /// Appends the row that was read last, with its arcs.
-    #[inline]
+    #[inline(always)]
     pub fn push_to(&self, lines: &mut Lines, row: &Row) -> Result<(), AllocError>
         ensures { OnOk result (lines.new ≡ lines.old ++ line_of self.now row.now ∷ []) }
     {

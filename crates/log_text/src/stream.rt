@@ -228,6 +228,7 @@ impl LogStream {
     }
 
     /// Appends the row that was read last, with its arcs.
+    #[inline(always)]
     pub fn push_to(&self, lines: &mut Lines, row: &Row) -> Result<(), AllocError>
         ensures { OnOk result (lines.new ≡ lines.old ++ line_of self.now.reader row.now ∷ []) }
     {

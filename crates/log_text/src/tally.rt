@@ -81,7 +81,7 @@ impl Tally {
         }
     }
 
-    #[inline]
+    #[inline(always)]
     fn add_kind(&mut self, at: usize, kind: Kind)
         requires { at < 8 }
         ensures { AddsKind self.old at kind self.new }

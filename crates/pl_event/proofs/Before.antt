@@ -16,7 +16,7 @@ use Rattle.pl_event.specs.declared.fed.Fed.{Fed}
 use Rattle.pl_event.specs.declared.heads.Heads.{Heads}
 use Rattle.pl_event.specs.Numbers.{hart_of, is_of, event_of, events_of, events_on}
 use Rattle.pl_event.specs.Records.{records_before, IsRecord}
-use Rattle.pl_event.specs.Edges.{arc_of, notice_of, IsArc, IsNotice, IsAfter, Into, IsFlow}
+use Rattle.pl_event.specs.Edges.{arc_of, no_arcs, notice_of, IsArc, IsNotice, IsAfter, Into, IsFlow}
 use Rattle.pl_event.specs.Needs.{IsMost, need_of, needs_of}
 use Rattle.pl_event.specs.Feeds.{place_at, event_number_at, fed_at, feds_from}
 use Rattle.pl_event.specs.Heads.{IsNext, Tells}
@@ -214,6 +214,18 @@ copied (suc n) d (suc h) = copied n d h
 
 pub eight : {A : Type 0} (d : A) (h : ℕ) → get_or (d ∷ d ∷ d ∷ d ∷ d ∷ d ∷ d ∷ d ∷ []) h d ≡ d
 eight d h = copied 8 d h
+
+-- a line without arcs on which no notice bears needs nothing
+pub needs_bare : (harts : ℕ) (g : List Line) (flow : IsFlow harts g) (i h : ℕ) (l : Line) (next : IsNext g i h l) → l.arcs ≡ no_arcs
+    → ((u n : ℕ) → u < 8 → (IsNotice g u n h (records_before h g i + 1) ⊎ IsAfter g u n h (records_before h g i + 1)) → ⊥)
+    → no_arcs ≡ needs_of g h (records_before h g i + 1)
+needs_bare harts g flow i h l next bare none = λ d.
+    nothing 0 (omega arith) d ∷ nothing 1 (omega arith) d ∷ nothing 2 (omega arith) d ∷ nothing 3 (omega arith) d
+    ∷ nothing 4 (omega arith) d ∷ nothing 5 (omega arith) d ∷ nothing 6 (omega arith) d ∷ nothing 7 (omega arith) d ∷ []
+  where
+    nothing : (u : ℕ) → u < 8 → None ≡ need_of g u h (records_before h g i + 1)
+    nothing u low = sym (need_alone harts g flow i h l next u (λ n. none u n low)
+        ∙ (ap (λ (arcs : List (Option ℕ)). slice_index_or arcs u None) bare ∙ eight None u))
 
 pub tells_first : (s : Heads) (g : List Line) → s.place ≡ 0 → ((h : ℕ) → slice_index s.events h ≡ 0) → ((h : ℕ) → slice_index s.records h ≡ 0) → ((h : ℕ) → slice_index_or s.open h None ≡ None) → Tells s g 0
 tells_first s g first events zeros nones = record {

@@ -26,56 +26,14 @@ next-requires-clause-few c =
     let most : records_before c.record_hart-hart.result c.args.log.now.lines c.args.at ≤ c.args.at = before_most c.args.log.now.lines c.record_hart-hart.result c.args.at in
     omega (arith, c.requires.at, c.requires.few)
 
-pub get-number-requires : goal.get-number-requires
-get-number-requires c = subst (λ (z : ℕ). z < 8) (sym c.record_hart-hart.ensures) (line_room c.args.log.now.harts c.args.log.now.lines c.requires.log.flow c.requires.log.few c.requires.few c.args.self.now.heads c.args.at c.args.line.now c.requires.checked.tells c.requires.line).0
-
-pub earlier-requires-clause-line : goal.earlier-requires-clause-line
-earlier-requires-clause-line c = line_next c.args.log.now.lines c.args.at (hart_of c.args.line.now.what) c.args.line.now c.requires.line refl
-
-pub earlier-requires-clause-clock : goal.earlier-requires-clause-clock
-earlier-requires-clause-clock c = subst (λ (z : ℕ). IsClock (Into c.args.log.now.lines) z (records_before z c.args.log.now.lines c.args.at + 1) (time c.in_ok-clock.clock)) c.record_hart-hart.ensures
+pub settle-requires-clause-clock : goal.settle-requires-clause-clock
+settle-requires-clause-clock c = subst (λ (z : ℕ). IsClock (Into c.args.log.now.lines) z (records_before z c.args.log.now.lines c.args.at + 1) (time c.in_ok-clock.clock)) c.record_hart-hart.ensures
     (c.in_ok-clock.ensures.ok c.args.log.now.harts c.args.log.now.lines c.args.at c.args.line.now c.requires.log.flow c.requires.log.few c.requires.checked.clocks (line_next c.args.log.now.lines c.args.at c.record_hart-hart.result c.args.line.now c.requires.line c.record_hart-hart.ensures) (c.needs-needs.ensures c.args.log.now.harts c.args.log.now.lines c.args.at c.requires.log.flow c.requires.checked.tells (line_next c.args.log.now.lines c.args.at c.record_hart-hart.result c.args.line.now c.requires.line c.record_hart-hart.ensures))).0
 
-pub returns-in-Some : goal.returns-in-Some
-returns-in-Some c =
-    let p = c.in-Some.ensures in
-    let hart : p.b.hart ≡ c.record_hart-hart.result = event_hart c.args.log.now.lines c.args.at p.m p.b c.args.line.now p.pair.second c.requires.line ∙ sym c.record_hart-hart.ensures in
-    names_first c.args.log.now c.args.at c.in-Some.earlier (record { hart = c.record_hart-hart.result; number = c.get-number.result }) c.requires.checked.ordered p p.m p.b p.pair.second hart
-    (sym p.pair.second.1.number ∙ (ap (λ (z : ℕ). records_before z c.args.log.now.lines c.args.at + 1) hart ∙ (sym (c.in_ok-clock.ensures.ok c.args.log.now.harts c.args.log.now.lines c.args.at c.args.line.now c.requires.log.flow c.requires.log.few c.requires.checked.clocks (line_next c.args.log.now.lines c.args.at c.record_hart-hart.result c.args.line.now c.requires.line c.record_hart-hart.ensures) (c.needs-needs.ensures c.args.log.now.harts c.args.log.now.lines c.args.at c.requires.log.flow c.requires.checked.tells (line_next c.args.log.now.lines c.args.at c.record_hart-hart.result c.args.line.now c.requires.line c.record_hart-hart.ensures))).2 ∙ sym c.get-number.ensures)))
+pub settle-requires-clause-number : goal.settle-requires-clause-number
+settle-requires-clause-number c = subst (λ (z : ℕ). time c.in_ok-clock.clock z ≡ records_before z c.args.log.now.lines c.args.at + 1) c.record_hart-hart.ensures
+    (c.in_ok-clock.ensures.ok c.args.log.now.harts c.args.log.now.lines c.args.at c.args.line.now c.requires.log.flow c.requires.log.few c.requires.checked.clocks (line_next c.args.log.now.lines c.args.at c.record_hart-hart.result c.args.line.now c.requires.line c.record_hart-hart.ensures) (c.needs-needs.ensures c.args.log.now.harts c.args.log.now.lines c.args.at c.requires.log.flow c.requires.checked.tells (line_next c.args.log.now.lines c.args.at c.record_hart-hart.result c.args.line.now c.requires.line c.record_hart-hart.ensures))).2
 
-pub pass-requires : goal.pass-requires
-pass-requires c = sound_line c.args.log.now.harts c.args.log.now.lines c.requires.log.few c.requires.log.sound c.args.at c.args.line.now (got c.args.log.now.lines c.args.at c.args.line.now c.requires.line)
-
-pub pass-requires-2-clause-hart : goal.pass-requires-2-clause-hart
-pass-requires-2-clause-hart c = (line_room c.args.log.now.harts c.args.log.now.lines c.requires.log.flow c.requires.log.few c.requires.few c.args.self.now.heads c.args.at c.args.line.now c.requires.checked.tells c.requires.line).0
-
-pub pass-requires-2-clause-few : goal.pass-requires-2-clause-few
-pass-requires-2-clause-few c = (line_room c.args.log.now.harts c.args.log.now.lines c.requires.log.flow c.requires.log.few c.requires.few c.args.self.now.heads c.args.at c.args.line.now c.requires.checked.tells c.requires.line).1
-
-pub pass-requires-3-clause-hart : goal.pass-requires-3-clause-hart
-pass-requires-3-clause-hart c = (line_room c.args.log.now.harts c.args.log.now.lines c.requires.log.flow c.requires.log.few c.requires.few c.args.self.now.heads c.args.at c.args.line.now c.requires.checked.tells c.requires.line).0
-
-pub pass-requires-3-clause-records : goal.pass-requires-3-clause-records
-pass-requires-3-clause-records c = (line_room c.args.log.now.harts c.args.log.now.lines c.requires.log.flow c.requires.log.few c.requires.few c.args.self.now.heads c.args.at c.args.line.now c.requires.checked.tells c.requires.line).1
-
-pub pass-requires-3-clause-place : goal.pass-requires-3-clause-place
-pass-requires-3-clause-place c = (line_room c.args.log.now.harts c.args.log.now.lines c.requires.log.flow c.requires.log.few c.requires.few c.args.self.now.heads c.args.at c.args.line.now c.requires.checked.tells c.requires.line).2
-
-pub pass-requires-3-clause-events : goal.pass-requires-3-clause-events
-pass-requires-3-clause-events c = (line_room c.args.log.now.harts c.args.log.now.lines c.requires.log.flow c.requires.log.few c.requires.few c.args.self.now.heads c.args.at c.args.line.now c.requires.checked.tells c.requires.line).3
-
-pub returns : goal.returns
-returns c = record {
-  tells = c.pass-3.ensures c.args.log.now.harts c.args.log.now.lines c.args.at c.requires.log.flow c.requires.checked.tells next;
-  clocks = (c.in_ok-clock.ensures.ok c.args.log.now.harts c.args.log.now.lines c.args.at c.args.line.now c.requires.log.flow c.requires.log.few c.requires.checked.clocks (line_next c.args.log.now.lines c.args.at c.record_hart-hart.result c.args.line.now c.requires.line c.record_hart-hart.ensures) (c.needs-needs.ensures c.args.log.now.harts c.args.log.now.lines c.args.at c.requires.log.flow c.requires.checked.tells (line_next c.args.log.now.lines c.args.at c.record_hart-hart.result c.args.line.now c.requires.line c.record_hart-hart.ensures))).1;
-  lasts = c.in_ok-pass.ensures.ok c.args.log.now.block c.args.log.now.lines c.args.at c.requires.checked.lasts
-      (subst (λ (z : ℕ). IsRecord c.args.log.now.lines c.args.at (hart_of c.args.line.now.what) z c.args.line.now) number next);
-  alerts = c.pass-2.ensures c.args.log.now.harts c.args.log.now.lines c.args.at c.requires.log.flow c.requires.checked.tells next c.requires.checked.alerts;
-  ordered = ordered_more c.args.log.now.block c.args.log.now.lines c.args.at c.requires.checked.ordered c.in_default.ensures;
-}
-  where
-    next : IsNext c.args.log.now.lines c.args.at (hart_of c.args.line.now.what) c.args.line.now
-    next = line_next c.args.log.now.lines c.args.at (hart_of c.args.line.now.what) c.args.line.now c.requires.line refl
-
-    number : records_before (hart_of c.args.line.now.what) c.args.log.now.lines c.args.at + 1 ≡ c.get-number.result
-    number = ap (λ (z : ℕ). records_before z c.args.log.now.lines c.args.at + 1) (sym c.record_hart-hart.ensures) ∙ (sym (c.in_ok-clock.ensures.ok c.args.log.now.harts c.args.log.now.lines c.args.at c.args.line.now c.requires.log.flow c.requires.log.few c.requires.checked.clocks (line_next c.args.log.now.lines c.args.at c.record_hart-hart.result c.args.line.now c.requires.line c.record_hart-hart.ensures) (c.needs-needs.ensures c.args.log.now.harts c.args.log.now.lines c.args.at c.requires.log.flow c.requires.checked.tells (line_next c.args.log.now.lines c.args.at c.record_hart-hart.result c.args.line.now c.requires.line c.record_hart-hart.ensures))).2 ∙ sym c.get-number.ensures)
+pub settle-requires-clause-clocks : goal.settle-requires-clause-clocks
+settle-requires-clause-clocks c =
+    (c.in_ok-clock.ensures.ok c.args.log.now.harts c.args.log.now.lines c.args.at c.args.line.now c.requires.log.flow c.requires.log.few c.requires.checked.clocks (line_next c.args.log.now.lines c.args.at c.record_hart-hart.result c.args.line.now c.requires.line c.record_hart-hart.ensures) (c.needs-needs.ensures c.args.log.now.harts c.args.log.now.lines c.args.at c.requires.log.flow c.requires.checked.tells (line_next c.args.log.now.lines c.args.at c.record_hart-hart.result c.args.line.now c.requires.line c.record_hart-hart.ensures))).1

@@ -192,7 +192,11 @@ impl OrderCheck {
 
     /// Takes the line at this position of the log, as `pass`.
     #[inline(always)]
-    pub(crate) fn pass_at(&mut self, log: &Log, at: usize) -> Result<Option<UnorderedPair>, NoMemory>
+    pub(crate) fn pass_at(
+        &mut self,
+        log: &Log,
+        at: usize,
+    ) -> Result<Option<UnorderedPair>, NoMemory>
         requires at { at < length log.now.lines }
         requires few { length log.now.lines < 2 ^ 32 }
         requires log { IsCheckable log.now }

@@ -40,6 +40,7 @@ pub enum CheckRefused {
 }
 
 // The first pair of a log that is not ordered.
+#[inline(never)]
 fn first_unordered(alloc: Global, log: &Log) -> Result<Option<UnorderedPair>, NoMemory>
     requires log { IsRunLog log.now }
     requires few { length log.now.lines < 2 ^ 32 }

@@ -58,6 +58,7 @@ fn read_opened<S: Source>(alloc: Global, opening: Opening, source: &mut S) -> Re
 }
 
 /// Reads all record lines.
+#[inline(never)]
 fn read_lines<S: Source>(
     stream: &mut LogStream,
     source: &mut S,

@@ -1,6 +1,8 @@
 -- A log that is recorded anew, line by line.
-use Rattle.std.proofs.Common.{◌≡◌, ℕ, ◌+◌, ◌<◌, ◌≤◌, List, [], ◌∷◌, ◌++◌, length, take, get_or, sym, ap, subst, arith}
+use Rattle.std.proofs.Common.{◌≡◌, ℕ, ◌+◌, ◌*◌, ◌<◌, ◌≤◌, ◌∙◌, List, [], ◌∷◌, ◌++◌, length, take, get_or, sym, ap, subst, arith}
 use Rattle.std.specs.List.{cons_option}
+use Rattle.std.proofs.lemmas.List.{length-map}
+use Rattle.std.proofs.lemmas.List.Elements.{recursion_from_All}
 use Rattle.pl_event.specs.declared.event.Event.{Event}
 use Rattle.pl_event.specs.declared.log.Line.{Line}
 use Rattle.pl_event.specs.declared.log.Log.{Log}
@@ -12,6 +14,9 @@ use Rattle.pl_event.specs.OpeningPages.{RiseFrom, pages_in}
 use Rattle.pl_event.specs.Runs.{IsBlockSize, IsOpening, IsRunLog, IsSoundRecord}
 use Rattle.pl_event.proofs.EventLemmas.{events-more, few_before}
 use Rattle.conflict_alerts.specs.declared.placer.Placer.{Placer}
+use Rattle.conflict_alerts.specs.Placing.{placed}
+use Rattle.arc_reduce.specs.Reduction.{records_in}
+use Rattle.arc_capture.proofs.Feeding.{length_from}
 use Rattle.arc_capture.specs.declared.marker.Marker.{Marker}
 use Rattle.arc_capture.specs.Recorder.{HasRecorded, IsValidRecord, MayFeed, MayRecord}
 
@@ -58,3 +63,12 @@ with_blocks log made harts block pages opening = record {
   rising = subst (RiseFrom 0) (sym pages) opening.rising;
   room = subst (λ (runs : List PageRun). pages_in runs ≤ 512) (sym pages) opening.room;
 }
+
+-- a recorder makes at most eight lines of an event
+pub few_recorded : (placer : Placer) (marker : Marker) (size : ℕ) (events : List Event) (lines : List Line) → HasRecorded placer marker size events lines → length events ≤ 2000000 → length lines ≤ 16000000
+few_recorded placer marker size events lines has few =
+    let base : List Line = placed placer.harts events in
+    let same : records_in lines ≡ records_in base = has.marked.reduced.records ∙ has.marked.whole.records in
+    let long : length lines ≡ length base = sym (length-map lines (λ (line : Line). line.what)) ∙ (ap (λ (rs : List Record). length rs) same ∙ length-map base (λ (line : Line). line.what)) in
+    let most : length base ≤ 0 + 8 * length events = length_from placer.harts events has.harts (recursion_from_All (λ (event : Event). event.hart < placer.harts) events has.inside) [] in
+    omega arith

@@ -39,7 +39,7 @@ length_lines harts n e low = by (is_alert_kind e.kind)
         let few : length (notices_below e.hart n harts) + 1 ≤ harts = (length_below e.hart n harts).1 low in omega arith
     by false = omega (arith, low)
 
-length_from : (harts : ℕ) (events : List Event) → harts ≤ 8 → AllByRecursion (λ event. event.hart < harts) events → (g : List Line) → length (fold (with_event harts) g events) ≤ length g + 8 * length events
+pub length_from : (harts : ℕ) (events : List Event) → harts ≤ 8 → AllByRecursion (λ event. event.hart < harts) events → (g : List Line) → length (fold (with_event harts) g events) ≤ length g + 8 * length events
 length_from harts [] small all g = omega arith
 length_from harts (e ∷ es) small all g =
     let n : ℕ = count_in e.hart g + 1 in

@@ -1,7 +1,7 @@
 //! A log that is recorded anew: a recorder makes a log of its events.
 ghost use Rattle.std.specs.Prelude.{◌≡◌, ℕ, ◌<◌, ◌≤◌, [], ◌∷◌, ◌++◌, All, List, length, IfOk, OnOk};
 ghost use Rattle.std.specs.List.{cons_option};
-ghost use Rattle.pl_base.specs.declared.layout.TheConstants.{MAX_RECORDS};
+ghost use Rattle.pl_base.specs.declared.layout.TheConstants.{MAX_LINES, MAX_RECORDS};
 ghost use Rattle.pl_event.specs.declared.event.Event.{Event};
 ghost use Rattle.pl_event.specs.Conflicts.{IsOrdered};
 ghost use Rattle.pl_event.specs.Numbers.{event_of, events_of};
@@ -72,6 +72,7 @@ fn lines_again(alloc: Global, log: &Log, block: u8) -> Result<Lines, NoMemory>
     requires few { length log.now.lines ≤ MAX_RECORDS }
     requires block { IsBlockSize block }
     ensures lines { IfOk result (AreRecorded log.now.harts block (events_of log.now.lines)) }
+    ensures few { IfOk result (λ lines. length lines ≤ MAX_LINES) }
     ensures inside { IfOk result (λ _. All (λ event. event.hart < log.now.harts) (events_of log.now.lines)) }
 {
     recorder_lines();
@@ -93,6 +94,7 @@ pub fn recapture(alloc: Global, log: &Log, block: u8) -> Result<Log, NoMemory>
     ensures recorded { IfOk result (IsRecorded log.now.harts block log.now.pages (events_of log.now.lines)) }
     ensures run { IfOk result IsRunLog }
     ensures ordered { IfOk result IsOrdered }
+    ensures few { IfOk result (λ made. length made.lines ≤ MAX_LINES) }
 {
     recorded_events();
     placed_logs();

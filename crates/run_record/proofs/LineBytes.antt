@@ -126,6 +126,7 @@ arcs_short first (point ∷ points) form =
     rest [] form = omega arith
     rest (point ∷ points) form =
         omega (arith, length-append (codes ",") (point_word point ++ arcs_text false points), length-append (point_word point) (arcs_text false points), length-append (decimal point.hart) (58 ∷ decimal point.number), one_digit point.hart form.0.0, seven_digits point.number form.0.2, rest points form.1)
+
     front : (first : Bool) (text : List ℕ) → text ≡ arcs_text first (point ∷ points) → length (decimal point.hart) ≤ 1 → length (decimal point.number) ≤ 7
         → length (point_word point) ≡ length (decimal point.hart) + length (58 ∷ decimal point.number) → length (point_word point ++ arcs_text false points) ≡ length (point_word point) + length (arcs_text false points)
         → length (arcs_text false points) ≤ 10 * length points → length text ≤ 2 + 10 * length (point ∷ points)

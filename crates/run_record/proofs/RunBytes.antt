@@ -1,5 +1,5 @@
 -- How many bytes the text of a recorded run takes, at most.
-use Rattle.std.proofs.Common.{◌≡◌, ℕ, zero, suc, ◌+◌, ◌*◌, ◌<◌, ◌≤◌, Bool, true, false, eqb, List, [], ◌∷◌, ◌++◌, length, map, refl, sym, ap, ◌∙◌, subst, arith, if◌then◌else◌}
+use Rattle.std.proofs.Common.{◌≡◌, ℕ, zero, suc, ◌+◌, ◌*◌, ◌<◌, ◌≤◌, Bool, true, false, List, [], ◌∷◌, ◌++◌, length, map, ap, ◌∙◌, arith, if◌then◌else◌}
 use Rattle.std.specs.Prelude.{All, fold}
 use Rattle.std.specs.List.{AllByRecursion}
 use Rattle.std.proofs.lemmas.List.{length-append, map-append}
@@ -15,9 +15,9 @@ use Rattle.pl_event.specs.Alerts.{is_alert_kind}
 use Rattle.log_grammar.specs.Spelling.{page, row_of, header_text, line_text, entry_text, entries_text, entries_of, log_spelling}
 use Rattle.log_text.specs.WellFormed.{IsWellFormed}
 use Rattle.log_text.proofs.TextLength.{header_short, runs_short}
-use Rattle.conflict_alerts.specs.Placing.{event_line, notice_line, notice_to, notices_below, lines_of, with_event, count_in, placed}
+use Rattle.conflict_alerts.specs.Placing.{event_line, notice_to, notices_below, lines_of, with_event, count_in, placed}
 use Rattle.conflict_alerts.proofs.Telling.{to_own, to_other}
-use Rattle.run_record.proofs.LineBytes.{cost, costs, lines_short}
+use Rattle.run_record.proofs.LineBytes.{costs, lines_short}
 
 abbrev records : List Line → List Record
 records lines = map (λ line. line.what) lines
@@ -27,7 +27,7 @@ abbrev bytes : List Line → ℕ
 bytes lines = costs (records lines)
 
 costs-append : (xs ys : List Record) → costs (xs ++ ys) ≡ costs xs + costs ys
-costs-append [] ys = refl
+costs-append [] ys = omega arith
 costs-append (x ∷ xs) ys = omega (arith, costs-append xs ys)
 
 bytes-append : (xs ys : List Line) → bytes (xs ++ ys) ≡ bytes xs + bytes ys

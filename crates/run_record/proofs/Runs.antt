@@ -1,7 +1,6 @@
 -- The events of a run, as those of a recorded log.
-use Rattle.std.proofs.Common.{◌≡◌, ℕ, zero, suc, ◌+◌, ◌<◌, ◌≤◌, List, [], ◌∷◌, ◌++◌, length, take, Option, Some, slice_get, refl, sym, ap, ◌∙◌, subst, arith}
+use Rattle.std.proofs.Common.{◌≡◌, ℕ, List, [], ◌∷◌, ◌++◌, length, take, Some, slice_get, refl, ap, ◌∙◌, subst}
 use Rattle.pl_event.specs.declared.event.Event.{Event}
-use Rattle.pl_event.specs.declared.log.PageRun.{PageRun}
 use Rattle.core_sim.specs.declared.job.Job.{Job}
 use Rattle.core_sim.specs.RunEvents.{MayFollow}
 use Rattle.core_sim.specs.Start.{start_runs}

@@ -2,5 +2,3 @@ pub mod Recorded
 pub mod Texts
 pub mod Recording
 pub mod Writing
-pub mod Tallies
-pub mod Counting

@@ -1,5 +1,5 @@
 -- The log that is recorded of a run.
-use Rattle.std.specs.Prelude.{ℕ, List}
+use Rattle.std.specs.Prelude.{List}
 use Rattle.pl_base.specs.declared.layout.TheConstants.{BLOCK_BYTES}
 use Rattle.pl_event.specs.declared.log.Line.{Line}
 use Rattle.pl_event.specs.declared.log.Log.{Log}

@@ -7,7 +7,7 @@ use Rattle.pl_event.specs.Valid.{IsValidEvent}
 use Rattle.core_sim.specs.declared.job.Job.{Job}
 use Rattle.core_sim.specs.Entries.{Entry}
 use Rattle.core_sim.specs.RunEvents.{events_of_run}
-use Rattle.core_sim.specs.Runs.{IsEnded, IsRun}
+use Rattle.core_sim.specs.Runs.{IsRun}
 use Rattle.core_sim.specs.Stands.{Stands}
 use Rattle.arc_capture.specs.declared.recorder.Recorder.{Recorder}
 use Rattle.arc_capture.specs.Recorder.{HasRecorded}

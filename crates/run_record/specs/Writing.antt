@@ -17,5 +17,5 @@ with_lines log more = record log { lines = log.lines ++ more }
 -- the recording is somewhere in the run of the job, and the text is that of its lines so far
 pub record IsWriting (job : Job) (recording : Recording) (text : List ℕ) : Type 0 where
   pub lines : List Line
-  pub recording : IsRecording job lines recording
+  pub running : IsRecording job lines recording
   pub told : text ≡ log_spelling (log_of job.harts BLOCK_BYTES (start_runs job) lines)

@@ -9,6 +9,10 @@ ghost use Rattle.core_sim.specs.declared.job.Job.{Job};
 ghost use Rattle.core_sim.specs.Valid.{IsValidJob};
 ghost use Rattle.run_record.specs.Recorded.{IsLogOfRun};
 
+use arc_capture::recorded_events;
+use core_sim::{one_run, opening_pages, run_events};
+use log_text::log_laws;
+
 /// The run of a valid job has one recorded log. It is well-formed and ordered, and its text is at most as long as a log
 /// may be: so whatever reads logs takes it.
 pub fn recorded_runs()
@@ -17,4 +21,10 @@ pub fn recorded_runs()
     ensures ordered { (job : Job) (log : Log) → IsValidJob job → IsLogOfRun job log → IsOrdered log }
     ensures short { (job : Job) (log : Log) → IsValidJob job → IsLogOfRun job log →
         length (log_spelling log) ≤ MAX_LOG_BYTES }
-{}
+{
+    one_run();
+    opening_pages();
+    run_events();
+    recorded_events();
+    log_laws();
+}

@@ -1,18 +1,15 @@
 //! Runs of guests as logs: what is written of a job's run, and of a log that is recorded anew.
 //!
 //! A recording takes a machine and a recorder step by step through the run of a job, and gives the lines of each step.
-//! Its lines become the text of a log at once, or figures of a summary; none are kept.
+//! Its lines become the text of a log at once; none are kept.
 #![tactic(auto)]
 
 mod laws;
 mod recording;
-mod summary;
-mod tally;
 mod upgrade;
 mod written;
 
 pub use laws::recorded_runs;
 pub use recording::Recording;
-pub use summary::summary;
 pub use upgrade::upgrade_log;
 pub use written::record_job;

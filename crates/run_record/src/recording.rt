@@ -6,8 +6,8 @@ ghost use Rattle.pl_event.specs.declared.log.Line.{Line};
 ghost use Rattle.core_sim.specs.declared.job.Job.{Job};
 ghost use Rattle.core_sim.specs.Valid.{IsValidJob};
 
-use arc_capture::Recorder;
-use core_sim::{EventGroup, Job, Machine, StepOut};
+use arc_capture::{Recorder, recorder_lines};
+use core_sim::{EventGroup, Job, Machine, StepOut, run_events};
 use pl_base::NoMemory;
 use pl_base::layout::BLOCK_BYTES;
 use pl_event::Line;
@@ -65,6 +65,8 @@ impl Recording {
         ensures within { (job : Job) (made : List Line) → IsRecording job made self.old → result ≡ Ok true →
             self.new.machine.steps ≤ job.steps }
     {
+        run_events();
+        recorder_lines();
         match self.machine.step() {
             Ok(StepOut::Did(events)) => {
                 self.feed(&events, lines)?;

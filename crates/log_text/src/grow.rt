@@ -11,12 +11,7 @@ use pl_event::{Line, PageRun};
 use std::alloc::Global;
 
 /// The text of a log of so many harts, with these blocks and pages, that has no line yet.
-pub fn begin_log(
-    alloc: Global,
-    harts: u8,
-    block: u8,
-    pages: &[PageRun],
-) -> Result<String, NoMemory>
+pub fn begin_log(alloc: Global, harts: u8, block: u8, pages: &[PageRun]) -> Result<String, NoMemory>
     ensures { IfOk result (λ text. string_bytes text ≡ log_spelling (log_of harts block pages.now [])) }
 {
     let mut text = String::new(alloc);

@@ -9,7 +9,7 @@ mod recording;
 mod upgrade;
 mod written;
 
-pub use laws::recorded_runs;
+pub use laws::{recorded_runs, recording_lines};
 pub use recording::Recording;
 pub use upgrade::upgrade_log;
 pub use written::record_job;

@@ -10,55 +10,54 @@ use Rattle.paralog_top.specs.declared.refusal.Refusal.{Refusal}
 use Rattle.paralog_top.specs.declared.refusal.Refusal.TheVariants as refusal
 use Rattle.paralog_top.specs.declared.status.Status.{Status}
 use Rattle.paralog_top.specs.declared.status.Status.TheVariants as status
+use Rattle.paralog_top.specs.Answers.{IsAnswer}
 use Rattle.paralog_top.specs.Asked.{Asked, Told}
-use Rattle.paralog_top.specs.Commands.{IsCommand, limit_of, names_of}
-use Rattle.paralog_top.specs.Defined.{IsAnswer}
+use Rattle.paralog_top.specs.Commands.{IsCommand, input_of}
 use Rattle.paralog_top.specs.Notes.{IsKept}
 use Rattle.paralog_top.specs.Refusals.{IsBadJob, IsBadLog, IsFaultless, IsRefusal, Reads, Takes}
-use Rattle.paralog_top.specs.Statuses.{Answers, Delivers, IsCut, IsWritten, MayRunOut, Says, Tells}
-use Rattle.paralog_top.proofs.Inputs.{read_front}
-use Rattle.paralog_top.proofs.Refusals.{reads_as}
+use Rattle.paralog_top.specs.Statuses.{Answers, Delivers, HasAnswer, IsCut, IsWritten, MayRunOut, Says, Tells}
+use Rattle.paralog_top.proofs.Refusals.{reads_as, reads_calm, reads_take}
 
--- an input that was read whole was read within the limit
-reads_take : (limit : ℕ) (input : Told) (P : List ℕ → Type 0) → Reads limit input P → Takes end.NoMemory input limit
-reads_take limit input P reads = read_front input.before input.after reads.0.bytes limit reads.0.consumed reads.0.few
+module _ (asked : Asked) (input out notes : Told) (command : Command)
+    (is : IsCommand asked.meanings asked.words command) where
+  abbrev IsAnswered : Answer → List ℕ → Type 0
+  IsAnswered answer bytes = IsAnswer asked.meanings command bytes answer.text.items answer.verdict
 
-module _ (asked : Asked) (input out notes : Told) (command : Command) (is : IsCommand asked.meanings asked.words command) where
   abbrev Whole : Answer → Type 0
-  Whole answer = Reads (limit_of command) input (λ bytes. IsAnswer asked.meanings (names_of asked.words) command bytes answer.text.items answer.verdict)
+  Whole answer = Reads (input_of command) input (IsAnswered answer)
 
-  -- the answer was written whole
-  answers : (answer : Answer) (v : Verdict) → answer.verdict ≡ v → Whole answer → IsWritten out answer.text.items → Answers asked input out v
-  answers answer v said whole written = (
+  -- what holds of the answer holds of an answer
+  has_answer : (answer : Answer) (P : List ℕ → Verdict → Type 0) → Whole answer → P answer.text.items answer.verdict
+      → HasAnswer asked input P
+  has_answer answer P whole holds = (
     command,
     is,
-    reads_as (limit_of command) input (λ bytes. IsAnswer asked.meanings (names_of asked.words) command bytes answer.text.items answer.verdict)
-        (λ bytes. (text : List ℕ) × IsAnswer asked.meanings (names_of asked.words) command bytes text v × IsWritten out text)
-        (λ bytes a. (answer.text.items, subst (λ (w : Verdict). IsAnswer asked.meanings (names_of asked.words) command bytes answer.text.items w) said a, written)) whole,
+    reads_as (input_of command) input (IsAnswered answer)
+        (λ bytes. (text : List ℕ) × (v : Verdict) × IsAnswer asked.meanings command bytes text v × P text v)
+        (λ bytes a. (answer.text.items, answer.verdict, a, holds)) whole,
   )
 
-  pub delivered : (answer : Answer) (s : Status) → Whole answer → Delivers answer out notes s → Says asked input out notes s
+  -- the answer was written whole
+  answers : (answer : Answer) (v : Verdict) → answer.verdict ≡ v → Whole answer → IsWritten out answer.text.items
+      → Answers asked input out v
+  answers answer v said whole written =
+      has_answer answer (λ text has. (has ≡ v) × IsWritten out text) whole (said, written)
+
+  pub delivered : (answer : Answer) (s : Status) → Whole answer → Delivers answer out notes s
+      → Says asked input out notes s
   delivered answer status.Clean whole d = (answers answer verdict.Clean d.0 whole d.1, d.2)
   delivered answer status.Reports whole d = (answers answer verdict.Reports d.0 whole d.1, d.2)
   delivered answer status.Usage whole d = absurd d
   delivered answer status.BadJob whole d = absurd d
   delivered answer status.BadLog whole d = absurd d
-  delivered answer status.Unordered whole d = (d.0, d.1, answers answer (verdict.Unordered d.0 d.1) d.2 whole d.3, d.4)
+  delivered answer status.Unordered whole d =
+      (d.0, d.1, answers answer (verdict.Unordered d.0 d.1) d.2.0 whole d.2.1, d.2.2)
   delivered answer status.ReadFault whole d = absurd d
-  delivered answer status.WriteFault whole d = (
-    (
-      command,
-      is,
-      reads_as (limit_of command) input (λ bytes. IsAnswer asked.meanings (names_of asked.words) command bytes answer.text.items answer.verdict)
-          (λ bytes. (text : List ℕ) × (v : Verdict) × IsAnswer asked.meanings (names_of asked.words) command bytes text v × IsCut out text)
-          (λ bytes a. (answer.text.items, answer.verdict, a, d.0)) whole,
-    ),
-    d.1,
-  )
+  delivered answer status.WriteFault whole d = (has_answer answer (λ text v. IsCut out text) whole d.0, d.1)
   delivered answer status.NoMemory whole d = (
     (
-      (command, is, reads_take (limit_of command) input (λ bytes. IsAnswer asked.meanings (names_of asked.words) command bytes answer.text.items answer.verdict) whole),
-      whole.1,
+      (command, is, reads_take (input_of command) input (IsAnswered answer) whole),
+      reads_calm (input_of command) input (IsAnswered answer) whole,
       d.0,
       d.1,
     ),
@@ -67,28 +66,38 @@ module _ (asked : Asked) (input out notes : Told) (command : Command) (is : IsCo
   delivered answer status.TooLong whole d = absurd d
 
   -- a refusal that may run out of memory took no more than the limit
-  ran_out : (r : Refusal) → MayRunOut r → IsRefusal command input r → Takes end.NoMemory input (limit_of command)
-  ran_out (refusal.BadJob fault) may is = reads_take (limit_of command) input (λ bytes. IsBadJob command bytes fault) is
-  ran_out (refusal.BadLog fault) may is = reads_take (limit_of command) input (λ bytes. IsBadLog command bytes fault) is
+  ran_out : (r : Refusal) → MayRunOut r → IsRefusal (input_of command) input r
+      → Takes (input_of command) end.NoMemory input
+  ran_out (refusal.BadJob fault) may is =
+      reads_take (input_of command) input (λ bytes. IsBadJob (input_of command) bytes fault) is
+  ran_out (refusal.BadLog fault) may is =
+      reads_take (input_of command) input (λ bytes. IsBadLog (input_of command) bytes fault) is
   ran_out refusal.ReadFault may is = absurd may
   ran_out refusal.TooLong may is = absurd may
   ran_out refusal.NoMemory may is = is.0
 
-  ran_calm : (r : Refusal) → MayRunOut r → IsRefusal command input r → IsFaultless input
-  ran_calm (refusal.BadJob fault) may is = is.1
-  ran_calm (refusal.BadLog fault) may is = is.1
+  ran_calm : (r : Refusal) → MayRunOut r → IsRefusal (input_of command) input r → IsFaultless input
+  ran_calm (refusal.BadJob fault) may is =
+      reads_calm (input_of command) input (λ bytes. IsBadJob (input_of command) bytes fault) is
+  ran_calm (refusal.BadLog fault) may is =
+      reads_calm (input_of command) input (λ bytes. IsBadLog (input_of command) bytes fault) is
   ran_calm refusal.ReadFault may is = absurd may
   ran_calm refusal.TooLong may is = absurd may
   ran_calm refusal.NoMemory may is = is.1
 
-  pub refused : (r : Refusal) (s : Status) → IsRefusal command input r → IsKept out → IsFaultless out → Tells r notes s → Says asked input out notes s
+  pub refused : (r : Refusal) (s : Status) → IsRefusal (input_of command) input r → IsKept out → IsFaultless out
+      → Tells r notes s → Says asked input out notes s
   refused r status.Clean ref kept calm t = absurd t
   refused r status.Reports ref kept calm t = absurd t
   refused r status.Usage ref kept calm t = absurd t
-  refused r status.BadJob ref kept calm t = (t.0, ((command, is, subst (IsRefusal command input) t.1 ref), kept), t.2)
-  refused r status.BadLog ref kept calm t = (t.0, ((command, is, subst (IsRefusal command input) t.1 ref), kept), t.2)
+  refused r status.BadJob ref kept calm t =
+      (t.0, ((command, is, subst (IsRefusal (input_of command) input) t.1 ref), kept), t.2)
+  refused r status.BadLog ref kept calm t =
+      (t.0, ((command, is, subst (IsRefusal (input_of command) input) t.1 ref), kept), t.2)
   refused r status.Unordered ref kept calm t = absurd t
-  refused r status.ReadFault ref kept calm t = (((command, is, subst (IsRefusal command input) t.0 ref), kept), t.1)
+  refused r status.ReadFault ref kept calm t =
+      (((command, is, subst (IsRefusal (input_of command) input) t.0 ref), kept), t.1)
   refused r status.WriteFault ref kept calm t = absurd t
   refused r status.NoMemory ref kept calm t = (((command, is, ran_out r t.0 ref), ran_calm r t.0 ref, kept, calm), t.1)
-  refused r status.TooLong ref kept calm t = (((command, is, subst (IsRefusal command input) t.0 ref), kept), t.1)
+  refused r status.TooLong ref kept calm t =
+      (((command, is, subst (IsRefusal (input_of command) input) t.0 ref), kept), t.1)

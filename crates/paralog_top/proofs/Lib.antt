@@ -1,8 +1,8 @@
-pub mod Names
 pub mod PlayLemmas
 pub mod Refusals
 pub mod RowLemmas
 pub mod RunLemmas
-pub mod Inputs
 pub mod Calls
+pub mod ChosenLemmas
+pub mod OneCommand
 pub mod Complete

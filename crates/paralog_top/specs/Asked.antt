@@ -23,4 +23,9 @@ pub record Told : Type 0 where
   pub faults_after : ℕ
 
 abbrev pub told : Known → Known → ℕ → ℕ → Told
-told before after faults_before faults_after = record { before = before; after = after; faults_before = faults_before; faults_after = faults_after }
+told before after faults_before faults_after =
+    record { before = before; after = after; faults_before = faults_before; faults_after = faults_after }
+
+-- what a source or a sink tells, as it was and as it is
+abbrev pub tells : {X : Type 0} → (X → Known) → (X → ℕ) → X → X → Told
+tells known faults old new = told (known old) (known new) (faults old) (faults new)

@@ -1,10 +1,12 @@
 pub mod Asked
+pub mod ProbeNames
 pub mod Commands
-pub mod Defined
+pub mod Results
+pub mod Checks
 pub mod Runs
 pub mod RunText
+pub mod Answers
 pub mod Refusals
 pub mod Notes
 pub mod Statuses
-pub mod Playing
 pub mod inner

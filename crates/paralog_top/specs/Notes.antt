@@ -10,7 +10,7 @@ use Rattle.guest_asm.specs.Words.{cause_word as job_cause_word}
 use Rattle.log_text.specs.declared.cause.LogFault.{LogFault}
 use Rattle.log_text.specs.Words.{cause_word}
 use Rattle.paralog_top.specs.Asked.{Told}
-use Rattle.paralog_top.specs.Defined.{point_text}
+use Rattle.paralog_top.specs.Checks.{point_text}
 
 -- the line at which a log is bad, and the cause
 abbrev pub log_note : LogFault → List ℕ
@@ -23,6 +23,21 @@ job_note fault = codes "paralog: job line " ++ decimal fault.line ++ codes ": " 
 -- the earlier record first
 abbrev pub unordered_note : Point → Point → List ℕ
 unordered_note earlier later = codes "paralog: unordered " ++ point_text earlier ++ 32 ∷ point_text later ++ 10 ∷ []
+
+abbrev pub usage_note : List ℕ
+usage_note = codes "paralog: usage\n"
+
+abbrev pub read_note : List ℕ
+read_note = codes "paralog: read fault\n"
+
+abbrev pub write_note : List ℕ
+write_note = codes "paralog: write fault\n"
+
+abbrev pub memory_note : List ℕ
+memory_note = codes "paralog: out of memory\n"
+
+abbrev pub length_note : List ℕ
+length_note = codes "paralog: too long\n"
 
 -- the line went to the notes whole; or a fault of the notes was counted, and a prefix of it did
 abbrev pub IsNoted : Told → List ℕ → Type 0

@@ -1,9 +1,9 @@
 //! `check`: whether each two conflicting records of a log are ordered.
 ghost use Rattle.std.specs.Prelude.{◌≡◌, ◌<◌, ◌^◌, length, IfOk, IfErr};
 ghost use Rattle.pl_event.specs.Runs.{IsRunLog};
-ghost use Rattle.paralog_top.specs.declared.command.Command.TheVariants as commands;
-ghost use Rattle.paralog_top.specs.Asked.{told};
-ghost use Rattle.paralog_top.specs.Defined.{HasOrder, IsChecked, order_line};
+ghost use Rattle.paralog_top.specs.declared.input.Input.TheVariants as kinds;
+ghost use Rattle.paralog_top.specs.Asked.{tells};
+ghost use Rattle.paralog_top.specs.Checks.{HasOrder, IsChecked, order_line};
 ghost use Rattle.paralog_top.specs.Refusals.{IsRefusal, Reads};
 
 use crate::answer::{Answer, Verdict};
@@ -17,10 +17,10 @@ use std::alloc::{AllocError, Global};
 
 /// The order of the log that the source has: a line that says that it is ordered, or names the first pair that is not.
 pub fn check<S: Source>(alloc: Global, source: &mut S) -> Result<Answer, Refusal>
-    ensures ok { let input = told (S.left source.old) (S.left source.new) (S.faults source.old) (S.faults source.new) in
-        IfOk result (λ answer. Reads MAX_LOG_BYTES input (λ bytes. IsChecked bytes answer.text.items answer.verdict)) }
-    ensures err { let input = told (S.left source.old) (S.left source.new) (S.faults source.old) (S.faults source.new) in
-        IfErr result (IsRefusal commands.Check input) }
+    ensures ok { let input = tells S.left S.faults source.old source.new in
+        IfOk result (λ answer. Reads kinds.Log input (λ bytes. IsChecked bytes answer.text.items answer.verdict)) }
+    ensures err { let input = tells S.left S.faults source.old source.new in
+        IfErr result (IsRefusal kinds.Log input) }
 {
     match read_source(alloc, source, MAX_LOG_BYTES) {
         Ok(log) => {

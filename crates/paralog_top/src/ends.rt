@@ -1,7 +1,7 @@
 //! How a call ends: what an answer or a refusal writes, and the status that it has.
-ghost use Rattle.std.specs.Prelude.{◌≡◌, codes};
-ghost use Rattle.paralog_top.specs.Asked.{told};
-ghost use Rattle.paralog_top.specs.Notes.{IsNoted};
+ghost use Rattle.std.specs.Prelude.{◌≡◌};
+ghost use Rattle.paralog_top.specs.Asked.{tells};
+ghost use Rattle.paralog_top.specs.Notes.{IsNoted, memory_note, write_note};
 ghost use Rattle.paralog_top.specs.Statuses.{Delivers, Tells};
 
 use crate::answer::{Answer, Verdict};
@@ -19,8 +19,8 @@ pub fn deliver<K: Sink, E: Sink>(
     out: &mut K,
     notes: &mut E,
 ) -> Status
-    ensures { Delivers answer.now (told (K.written out.old) (K.written out.new) (K.faults out.old) (K.faults out.new))
-        (told (E.written notes.old) (E.written notes.new) (E.faults notes.old) (E.faults notes.new)) result }
+    ensures { Delivers answer.now (tells K.written K.faults out.old out.new)
+        (tells E.written E.faults notes.old notes.new) result }
 {
     match answer.verdict {
         Verdict::Clean => match write_all_counted(out, &answer.text) {
@@ -47,8 +47,8 @@ fn deliver_pair<K: Sink, E: Sink>(
     notes: &mut E,
 ) -> Status
     requires { answer.now.verdict ≡ Verdict.Unordered earlier later }
-    ensures { Delivers answer.now (told (K.written out.old) (K.written out.new) (K.faults out.old) (K.faults out.new))
-        (told (E.written notes.old) (E.written notes.new) (E.faults notes.old) (E.faults notes.new)) result }
+    ensures { Delivers answer.now (tells K.written K.faults out.old out.new)
+        (tells E.written E.faults notes.old notes.new) result }
 {
     let Ok(line) = unordered_line(alloc, earlier, later) else {
         return out_of_memory(notes);
@@ -64,7 +64,7 @@ fn deliver_pair<K: Sink, E: Sink>(
 
 /// Tells a refusal. Where there is no memory for its line, the status says so.
 pub fn refuse<E: Sink>(alloc: Global, refusal: Refusal, notes: &mut E) -> Status
-    ensures { Tells refusal (told (E.written notes.old) (E.written notes.new) (E.faults notes.old) (E.faults notes.new)) result }
+    ensures { Tells refusal (tells E.written E.faults notes.old notes.new) result }
 {
     match refusal {
         Refusal::BadJob(fault) => match job_line(alloc, fault) {
@@ -95,7 +95,7 @@ pub fn refuse<E: Sink>(alloc: Global, refusal: Refusal, notes: &mut E) -> Status
 
 fn write_fault<E: Sink>(notes: &mut E) -> Status
     ensures status { result ≡ Status.WriteFault }
-    ensures noted { IsNoted (told (E.written notes.old) (E.written notes.new) (E.faults notes.old) (E.faults notes.new)) (codes "paralog: write fault\n") }
+    ensures noted { IsNoted (tells E.written E.faults notes.old notes.new) write_note }
 {
     note(notes, b"paralog: write fault\n");
     Status::WriteFault
@@ -103,7 +103,7 @@ fn write_fault<E: Sink>(notes: &mut E) -> Status
 
 fn out_of_memory<E: Sink>(notes: &mut E) -> Status
     ensures status { result ≡ Status.NoMemory }
-    ensures noted { IsNoted (told (E.written notes.old) (E.written notes.new) (E.faults notes.old) (E.faults notes.new)) (codes "paralog: out of memory\n") }
+    ensures noted { IsNoted (tells E.written E.faults notes.old notes.new) memory_note }
 {
     note(notes, b"paralog: out of memory\n");
     Status::NoMemory

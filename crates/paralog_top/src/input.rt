@@ -1,23 +1,35 @@
-//! The input of a command, read whole.
+//! What a command reads.
 ghost use Rattle.std.specs.Prelude.{◌≡◌, ◌≤◌, vec_len, IfOk, IfErr};
-ghost use Rattle.paralog_top.specs.declared.command.Command.{Command};
-ghost use Rattle.paralog_top.specs.Asked.{told};
-ghost use Rattle.paralog_top.specs.Commands.{limit_of};
+ghost use Rattle.pl_base.specs.declared.layout.TheConstants.{MAX_JOB_BYTES};
+ghost use Rattle.paralog_top.specs.declared.input.Input.TheVariants as kinds;
+ghost use Rattle.paralog_top.specs.Asked.{tells};
 ghost use Rattle.paralog_top.specs.Refusals.{IsRefusal, Reads};
 
 use crate::refusal::Refusal;
+use pl_base::layout::MAX_JOB_BYTES;
 use pl_base::{Source, read_all};
 use std::alloc::Global;
 
-/// All bytes that the source has, at most `limit` of them.
-pub fn read_input<S: Source>(alloc: Global, source: &mut S, limit: u32) -> Result<Vec<u8>, Refusal>
-    ensures ok { let input = told (S.left source.old) (S.left source.new) (S.faults source.old) (S.faults source.new) in
-        IfOk result (λ bytes. Reads limit input (λ read. read ≡ bytes.items)) }
-    ensures few { IfOk result (λ bytes. vec_len bytes ≤ limit) }
-    ensures err { let input = told (S.left source.old) (S.left source.new) (S.faults source.old) (S.faults source.new) in
-        (command : Command) → limit_of command ≡ limit → IfErr result (IsRefusal command input) }
+/// What a command reads.
+#[derive(Clone, Copy, Debug, PartialEq, Eq)]
+pub enum Input {
+    /// A log.
+    Log,
+    /// A job.
+    Job,
+    /// Nothing: the source is not touched.
+    Nothing,
+}
+
+/// All bytes that the source has, at most as many as a job may have.
+pub fn read_job_bytes<S: Source>(alloc: Global, source: &mut S) -> Result<Vec<u8>, Refusal>
+    ensures ok { let input = tells S.left S.faults source.old source.new in
+        IfOk result (λ bytes. Reads kinds.Job input (λ read. read ≡ bytes.items)) }
+    ensures few { IfOk result (λ bytes. vec_len bytes ≤ MAX_JOB_BYTES) }
+    ensures err { let input = tells S.left S.faults source.old source.new in
+        IfErr result (IsRefusal kinds.Job input) }
 {
-    match read_all(alloc, source, limit) {
+    match read_all(alloc, source, MAX_JOB_BYTES) {
         Ok(bytes) => Ok(bytes),
         Err(end) => Err(Refusal::of_end(end)),
     }

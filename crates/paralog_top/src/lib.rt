@@ -6,13 +6,16 @@
 
 mod answer;
 mod check;
+mod chosen;
 mod command;
+mod dispatch;
 mod ends;
 mod input;
 mod list;
 mod notes;
-mod played;
-mod probed;
+mod play;
+mod player;
+mod probe;
 mod refusal;
 mod replay;
 mod result;
@@ -21,6 +24,8 @@ mod run_text;
 mod status;
 mod top;
 
+pub use chosen::Chosen;
 pub use command::Command;
+pub use input::Input;
 pub use status::Status;
 pub use top::plain_top;

@@ -1,27 +1,27 @@
 //! `list`: the words of a job.
 ghost use Rattle.std.specs.Prelude.{◌≡◌, ◌<◌, ◌^◌, length, IfOk, IfErr};
 ghost use Rattle.guest_asm.specs.Jobs.{HasFault, IfFault};
-ghost use Rattle.paralog_top.specs.declared.command.Command.TheVariants as commands;
-ghost use Rattle.paralog_top.specs.Asked.{told};
+ghost use Rattle.paralog_top.specs.declared.input.Input.TheVariants as kinds;
+ghost use Rattle.paralog_top.specs.Asked.{tells};
 ghost use Rattle.paralog_top.specs.Refusals.{IsRefusal, Reads};
 ghost use Rattle.paralog_top.specs.Runs.{IsListing};
 
 use crate::answer::{Answer, Verdict};
-use crate::input::read_input;
+use crate::input::read_job_bytes;
 use crate::refusal::Refusal;
 use guest_asm::{JobRefused, listing, read_job};
 use pl_base::Source;
-use pl_base::layout::MAX_JOB_BYTES;
 use std::alloc::Global;
 
 /// The listing of the job that the source has.
 pub fn list<S: Source>(alloc: Global, source: &mut S) -> Result<Answer, Refusal>
-    ensures ok { let input = told (S.left source.old) (S.left source.new) (S.faults source.old) (S.faults source.new) in
-        IfOk result (λ answer. Reads MAX_JOB_BYTES input (λ bytes. IsListing bytes answer.text.items × (answer.verdict ≡ Verdict.Clean))) }
-    ensures err { let input = told (S.left source.old) (S.left source.new) (S.faults source.old) (S.faults source.new) in
-        IfErr result (IsRefusal commands.List input) }
+    ensures ok { let input = tells S.left S.faults source.old source.new in
+        IfOk result (λ answer. Reads kinds.Job input
+        (λ bytes. IsListing bytes answer.text.items × (answer.verdict ≡ Verdict.Clean))) }
+    ensures err { let input = tells S.left S.faults source.old source.new in
+        IfErr result (IsRefusal kinds.Job input) }
 {
-    let bytes = match read_input(alloc, source, MAX_JOB_BYTES) {
+    let bytes = match read_job_bytes(alloc, source) {
         Ok(bytes) => bytes,
         Err(refusal) => return Err(refusal),
     };

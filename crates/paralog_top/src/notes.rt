@@ -1,6 +1,6 @@
 //! The lines that go to the notes.
 ghost use Rattle.std.specs.Prelude.{◌≡◌, IfOk, string_bytes};
-ghost use Rattle.paralog_top.specs.Asked.{told};
+ghost use Rattle.paralog_top.specs.Asked.{tells};
 ghost use Rattle.paralog_top.specs.Notes.{IsNoted, job_note, log_note, unordered_note};
 
 use guest_asm::JobFault;
@@ -11,7 +11,7 @@ use std::alloc::{AllocError, Global};
 
 /// Writes a line to the notes, whole or up to the first fault.
 pub fn note<E: Sink>(notes: &mut E, line: &[u8])
-    ensures { IsNoted (told (E.written notes.old) (E.written notes.new) (E.faults notes.old) (E.faults notes.new)) line.now }
+    ensures { IsNoted (tells E.written E.faults notes.old notes.new) line.now }
 {
     let _ = write_all_counted(notes, line);
 }

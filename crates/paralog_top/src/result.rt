@@ -1,9 +1,9 @@
 //! The plain result of a log, as an answer.
-ghost use Rattle.std.specs.Prelude.{◌≡◌, ◌<◌, ◌≤◌, IfOk};
+ghost use Rattle.std.specs.Prelude.{◌≡◌, ◌<◌, IfOk};
 ghost use Rattle.pl_event.specs.declared.log.Log.{Log};
 ghost use Rattle.pl_event.specs.Numbers.{events_of};
 ghost use Rattle.lifeguard.specs.Shadow.{Represents, state_of};
-ghost use Rattle.paralog_top.specs.Defined.{IsResult, mask_row, mask_rows, verdict_of as verdict_by};
+ghost use Rattle.paralog_top.specs.Results.{IsResult, mask_row, mask_rows, verdict_of as verdict_by};
 
 use crate::answer::{Answer, Verdict};
 use lifeguard::{Lifeguard, PlainMonitor};
@@ -28,7 +28,8 @@ pub fn result_of<L: Lifeguard>(
     guard: L,
     monitor: &PlainMonitor<L>,
 ) -> Result<Answer, NoMemory>
-    ensures { (log : Log) → log.harts ≡ monitor.now.harts → Represents (L.rules guard) log.pages (events_of log.lines) monitor.now.shadow
+    ensures { (log : Log) → log.harts ≡ monitor.now.harts
+        → Represents (L.rules guard) log.pages (events_of log.lines) monitor.now.shadow
         → IfOk result (λ answer. IsResult (L.rules guard) log answer.text.items answer.verdict) }
 {
     let masks = mask_table(alloc, monitor)?;

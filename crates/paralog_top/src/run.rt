@@ -2,29 +2,29 @@
 ghost use Rattle.std.specs.Prelude.{◌≡◌, ◌≤◌, ◌<◌, ◌^◌, suc, Ok, true, false, length, IfOk, IfErr, OnOk};
 ghost use Rattle.core_sim.specs.Valid.{IsValidJob};
 ghost use Rattle.guest_asm.specs.Jobs.{HasFault, IfFault};
-ghost use Rattle.paralog_top.specs.declared.command.Command.TheVariants as commands;
-ghost use Rattle.paralog_top.specs.Asked.{told};
+ghost use Rattle.paralog_top.specs.declared.input.Input.TheVariants as kinds;
+ghost use Rattle.paralog_top.specs.Asked.{tells};
 ghost use Rattle.paralog_top.specs.Refusals.{IsRefusal, Reads};
 ghost use Rattle.paralog_top.specs.Runs.{IsJobTold, IsRunTold, IsRunning, IsRunEnded, ends_of};
 
 use crate::answer::{Answer, Verdict};
-use crate::input::read_input;
+use crate::input::read_job_bytes;
 use crate::refusal::Refusal;
 use crate::run_text::text;
 use core_sim::{HartEnd, Job, Machine, StepOut};
 use guest_asm::{JobRefused, read_job};
-use pl_base::layout::MAX_JOB_BYTES;
 use pl_base::{NoMemory, Source};
 use std::alloc::Global;
 
 /// The text of the run of the job that the source has.
 pub fn run<S: Source>(alloc: Global, source: &mut S) -> Result<Answer, Refusal>
-    ensures ok { let input = told (S.left source.old) (S.left source.new) (S.faults source.old) (S.faults source.new) in
-        IfOk result (λ answer. Reads MAX_JOB_BYTES input (λ bytes. IsRunTold bytes answer.text.items × (answer.verdict ≡ Verdict.Clean))) }
-    ensures err { let input = told (S.left source.old) (S.left source.new) (S.faults source.old) (S.faults source.new) in
-        IfErr result (IsRefusal commands.Run input) }
+    ensures ok { let input = tells S.left S.faults source.old source.new in
+        IfOk result (λ answer. Reads kinds.Job input
+        (λ bytes. IsRunTold bytes answer.text.items × (answer.verdict ≡ Verdict.Clean))) }
+    ensures err { let input = tells S.left S.faults source.old source.new in
+        IfErr result (IsRefusal kinds.Job input) }
 {
-    let bytes = match read_input(alloc, source, MAX_JOB_BYTES) {
+    let bytes = match read_job_bytes(alloc, source) {
         Ok(bytes) => bytes,
         Err(refusal) => return Err(refusal),
     };

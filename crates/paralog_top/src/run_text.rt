@@ -1,8 +1,9 @@
 //! The text of a run.
-ghost use Rattle.std.specs.Prelude.{◌≡◌, ◌+◌, ◌%◌, ◌==◌, ◌||◌, ◌<◌, ◌++◌, length, IfOk, OnOk, string_bytes};
+ghost use Rattle.std.specs.Prelude.{◌≡◌, ◌+◌, ◌%◌, ◌==◌, ◌||◌, ◌<◌, ◌++◌, IfOk, OnOk, string_bytes};
 ghost use Rattle.core_sim.specs.declared.hart.HartEnd.TheVariants.{Fault};
 ghost use Rattle.log_text.specs.Spelling.{fault_word};
-ghost use Rattle.paralog_top.specs.RunText.{end_words, hart_line, hart_lines, two_digits, byte_text, byte_lines, run_text};
+ghost use Rattle.paralog_top.specs.RunText.{end_words, hart_line, hart_lines, run_text};
+ghost use Rattle.paralog_top.specs.RunText.{byte_lines, byte_text};
 
 use core_sim::HartEnd;
 use pl_base::{FaultCause, NoMemory};

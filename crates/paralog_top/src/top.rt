@@ -4,8 +4,8 @@ ghost use Rattle.paralog_top.specs.Asked.{asks, told};
 ghost use Rattle.paralog_top.specs.Commands.{IsNoCommand};
 ghost use Rattle.paralog_top.specs.Statuses.{IsComplete, IsGood, Says};
 
-use crate::answer::answer_to;
-use crate::command::parse_command;
+use crate::command::Command;
+use crate::dispatch::answer_to;
 use crate::ends::{deliver, refuse};
 use crate::notes::note;
 use crate::status::Status;
@@ -16,8 +16,9 @@ use std::alloc::Global;
 /// Runs the command that the words are, on one thread: reads its input to the end, and writes its answer to `out` and,
 /// for any status but `Clean` and `Reports`, one line to `notes`.
 ///
-/// `Usage` comes before anything is read; `ReadFault` and `TooLong` by reading; `BadJob` and `BadLog` before anything is
-/// written; `Unordered` with the answer; `WriteFault` last. `NoMemory` may come at any place before something is written.
+/// `Usage` comes before anything is read; `ReadFault` and `TooLong` by reading; `BadJob` and `BadLog` before anything
+/// is written; `Unordered` with the answer; `WriteFault` last. `NoMemory` may come at any place before something is
+/// written.
 pub fn plain_top<S: Source, K: Sink, E: Sink>(
     alloc: Global,
     words: &[String],
@@ -36,7 +37,8 @@ pub fn plain_top<S: Source, K: Sink, E: Sink>(
         (told (E.written notes.old) (E.written notes.new) (E.faults notes.old) (E.faults notes.new)) result }
 
     // Words that are no command are refused, and nothing is read.
-    ensures usage { IsNoCommand (map (λ p. meaning p) probes.items) (map string_bytes words.now) → result ≡ Status.Usage }
+    ensures usage { IsNoCommand (map (λ p. meaning p) probes.items) (map string_bytes words.now)
+        → result ≡ Status.Usage }
     ensures unread { result ≡ Status.Usage → source.new ≡ source.old }
 
     // Completeness.
@@ -61,14 +63,15 @@ fn answer_words<S: Source, K: Sink, E: Sink>(
         (told (S.left source.old) (S.left source.new) (S.faults source.old) (S.faults source.new))
         (told (K.written out.old) (K.written out.new) (K.faults out.old) (K.faults out.new))
         (told (E.written notes.old) (E.written notes.new) (E.faults notes.old) (E.faults notes.new)) result }
-    ensures usage { IsNoCommand (map (λ p. meaning p) probes.items) (map string_bytes words.now) → result ≡ Status.Usage }
+    ensures usage { IsNoCommand (map (λ p. meaning p) probes.items) (map string_bytes words.now)
+        → result ≡ Status.Usage }
     ensures unread { result ≡ Status.Usage → source.new ≡ source.old }
 {
-    let Some(command) = parse_command(words, &probes) else {
+    let Some(command) = Command::parse(words, &probes) else {
         note(notes, b"paralog: usage\n");
         return Status::Usage;
     };
-    match answer_to(alloc, command, words, probes, source) {
+    match answer_to(alloc, command, probes, source) {
         Ok(answer) => deliver(alloc, &answer, out, notes),
         Err(refusal) => refuse(alloc, refusal, notes),
     }

@@ -1,5 +1,5 @@
 use Rattle.std.proofs.Common.{◌∙◌, subst}
-use Rattle.paralog_top.specs.Asked.{told}
+use Rattle.paralog_top.specs.Asked.{tells}
 use Rattle.paralog_top.specs.Notes.{IsNoted}
 use Rattle.paralog_top.proofs.ends.refuse.Goals as goal
 
@@ -7,7 +7,7 @@ pub returns-in-Ok : goal.returns-in-Ok
 returns-in-Ok g c = (
   c.in-BadJob.fault,
   c.in-BadJob.is,
-  subst (IsNoted (told (g.E.Sink.written c.args.notes.now) (g.E.Sink.written c.note.new.notes) (g.E.Sink.faults c.args.notes.now) (g.E.Sink.faults c.note.new.notes)))
+  subst (IsNoted (tells g.E.Sink.written g.E.Sink.faults c.args.notes.now c.note.new.notes))
       (c.as_bytes.ensures.value ∙ c.in-Ok.ensures) c.note.ensures,
 )
 
@@ -16,6 +16,6 @@ returns-in-Ok-log_line g c =
     let after = c.note-in-Ok-log_line.new.notes in (
       c.in-BadLog.fault,
       c.in-BadLog.is,
-      subst (IsNoted (told (g.E.Sink.written c.args.notes.now) (g.E.Sink.written after) (g.E.Sink.faults c.args.notes.now) (g.E.Sink.faults after)))
+      subst (IsNoted (tells g.E.Sink.written g.E.Sink.faults c.args.notes.now after))
           (c.as_bytes-in-Ok-log_line.ensures.value ∙ c.in-Ok-log_line.ensures) c.note-in-Ok-log_line.ensures,
     )

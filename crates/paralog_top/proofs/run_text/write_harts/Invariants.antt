@@ -5,4 +5,7 @@ use Rattle.paralog_top.specs.RunText.{hart_line, hart_lines}
 use Rattle.paralog_top.proofs.run_text.write_harts.Given as goal
 
 abbrev pub invariant-loop-hart : goal.invariant-loop-hart
-invariant-loop-hart l = string_bytes l.out ++ flat_map (λ entry. hart_line entry.0 entry.1) (enumerate_from l.hart (drop l.hart l.ends)) ≡ string_bytes l.initial.out ++ hart_lines l.ends
+invariant-loop-hart l =
+    string_bytes l.out
+    ++ flat_map (λ entry. hart_line entry.0 entry.1) (enumerate_from l.hart (drop l.hart l.ends))
+    ≡ string_bytes l.initial.out ++ hart_lines l.ends

@@ -1,0 +1,41 @@
+//! Each command's answer.
+ghost use Rattle.std.specs.Prelude.{[], All, map, IfOk, IfErr};
+ghost use Rattle.paralog_top.specs.Answers.{IsAnswer};
+ghost use Rattle.paralog_top.specs.Asked.{tells};
+ghost use Rattle.paralog_top.specs.Commands.{input_of};
+ghost use Rattle.paralog_top.specs.Refusals.{IsRefusal, Reads};
+
+use crate::answer::Answer;
+use crate::check::check;
+use crate::command::Command;
+use crate::list::list;
+use crate::probe::probe;
+use crate::refusal::Refusal;
+use crate::replay::replay;
+use crate::run::run;
+use pl_base::Source;
+use replay_probes::Probe;
+use std::alloc::Global;
+
+/// The command's answer to the input that the source has, with these probes.
+pub fn answer_to<S: Source>(
+    alloc: Global,
+    command: Command,
+    probes: Vec<Box<dyn Probe>>,
+    source: &mut S,
+) -> Result<Answer, Refusal>
+    requires fresh { All (λ p. has_seen p []) probes.items }
+    ensures ok { let input = tells S.left S.faults source.old source.new in
+        IfOk result (λ answer. Reads (input_of command) input
+        (λ bytes. IsAnswer (map (λ p. meaning p) probes.items) command bytes answer.text.items answer.verdict)) }
+    ensures err { let input = tells S.left S.faults source.old source.new in
+        IfErr result (IsRefusal (input_of command) input) }
+{
+    match command {
+        Command::Replay(guard) => replay(alloc, guard, source),
+        Command::Probe(guard, chosen) => probe(alloc, guard, &chosen, probes, source),
+        Command::Check => check(alloc, source),
+        Command::Run => run(alloc, source),
+        Command::List => list(alloc, source),
+    }
+}

@@ -1,1 +1,1 @@
-mod StuckLemmas
+pub mod StuckLemmas

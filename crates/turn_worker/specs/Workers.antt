@@ -9,6 +9,7 @@ use Rattle.order_core.specs.Lawful.{IsLawful}
 use Rattle.order_core.specs.Core.{IsMet}
 use Rattle.order_core.specs.Counts.{writes_before}
 use Rattle.guard_table.specs.declared.view.View.{View}
+use Rattle.guard_table.specs.Views.{HasEight}
 use Rattle.guard_table.specs.declared.seats.GuardSeat.{GuardSeat}
 use Rattle.guard_table.specs.declared.seats.Monitor.{Monitor}
 
@@ -48,6 +49,8 @@ IsOfTable table seat = seat.seat.table_id ≡ table
 pub record IsSound (v : WorkerView) : Type 0 where
   pub lawful : ∥ IsLawful v.seat.course ∥₁
   pub hart : v.seat.hart < v.seat.course.log.harts
+  -- its seat speaks of eight harts
+  pub eight : HasEight v.seat
   -- what it was fed begins its stream, and is all of it once the stream has ended
   pub fed : take (length v.fed) (stream_of v) ≡ v.fed
   pub whole : v.ended ≡ true → length v.fed ≡ size v

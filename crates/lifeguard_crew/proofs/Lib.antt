@@ -1,0 +1,4 @@
+pub mod Rounds
+pub mod Same
+pub mod Heard
+pub mod Advances

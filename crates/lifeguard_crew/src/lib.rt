@@ -9,6 +9,8 @@
 
 mod finished;
 mod one_thread;
+mod reports;
 
 pub use finished::Finished;
 pub use one_thread::run_one_thread;
+pub use reports::merge;

@@ -143,7 +143,7 @@ fn advance<P: Plan, W: TurnWorker, L: Ledger>(
 }
 
 // Turns the workers until all have ended.
-fn run_all<P: Plan, W: TurnWorker, L: Ledger>(
+fn run_rounds<P: Plan, W: TurnWorker, L: Ledger>(
     monitor: &Monitor<P>,
     workers: &mut [W],
     blank: Blank,
@@ -159,6 +159,21 @@ fn run_all<P: Plan, W: TurnWorker, L: Ledger>(
             return Ok(());
         }
     }
+}
+
+// The workers when all have ended.
+fn run_all<P: Plan, W: TurnWorker, L: Ledger>(
+    monitor: &Monitor<P>,
+    mut workers: Vec<W>,
+    blank: Blank,
+) -> Result<Vec<W>, NoMemory>
+    requires ready { IsReadyCrew P.planned W.view monitor.now workers.items }
+    requires name { blank.name ≡ L.name }
+    requires parts { (blank.parts ≡ L.parts) × (0 < blank.parts) }
+    ensures { IfOk result (λ ws. IsAdvance (map W.view workers.items) (map W.view ws.items) true) }
+{
+    run_rounds::<P, W, L>(monitor, workers.as_mut_slice(), blank)?;
+    Ok(workers)
 }
 
 // What the workers have found.
@@ -189,7 +204,7 @@ fn end_all<W: TurnWorker>(workers: Vec<W>, finished: Finished) -> Finished
 pub fn run_one_thread<P: Plan, W: TurnWorker>(
     alloc: Global,
     monitor: &Monitor<P>,
-    mut workers: Vec<W>,
+    workers: Vec<W>,
 ) -> Result<Finished, NoMemory>
     requires { IsReadyCrew P.planned W.view monitor.now workers.items }
     ensures { IfOk result (IsFinished P.planned W.view monitor.now workers.items) }
@@ -198,6 +213,6 @@ pub fn run_one_thread<P: Plan, W: TurnWorker>(
         results: Vec::with_capacity(alloc, workers.len())?,
         seats: Vec::with_capacity(alloc, workers.len())?,
     };
-    run_all::<P, W, Brand>(monitor, workers.as_mut_slice(), Blank::new(1))?;
+    let workers = run_all::<P, W, Brand>(monitor, workers, Blank::new(1))?;
     Ok(end_all(workers, finished))
 }

@@ -2,7 +2,7 @@ use Rattle.std.proofs.Common.{◌≡◌, List, Bool, true, false, map, subst}
 use Rattle.turn_worker.specs.Workers.{WorkerView}
 use Rattle.lifeguard_crew.specs.inner.Rounds.{AreSame, IsAdvance}
 use Rattle.lifeguard_crew.proofs.Same.{still_ready, same_then}
-use Rattle.lifeguard_crew.proofs.one_thread.run_all.Goals as goal
+use Rattle.lifeguard_crew.proofs.one_thread.run_rounds.Goals as goal
 
 pub advance-requires : goal.advance-requires
 advance-requires g c =

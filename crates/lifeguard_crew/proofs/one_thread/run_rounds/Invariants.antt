@@ -1,6 +1,6 @@
 use Rattle.std.proofs.Common.{map}
 use Rattle.lifeguard_crew.specs.inner.Rounds.{AreSame, left}
-use Rattle.lifeguard_crew.proofs.one_thread.run_all.Given as goal
+use Rattle.lifeguard_crew.proofs.one_thread.run_rounds.Given as goal
 
 abbrev pub invariant-rounds : goal.invariant-rounds
 invariant-rounds g l =

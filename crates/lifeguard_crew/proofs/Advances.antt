@@ -12,8 +12,8 @@ use Rattle.turn_worker.specs.Workers.{WorkerView, IsSound, size}
 use Rattle.turn_worker.specs.Turns.{IsWaiting, HasEnded}
 use Rattle.turn_worker.specs.Crews.{IsCrew, HaveHeard, IsThrough, IsStuck}
 use Rattle.turn_worker.proofs.StuckLemmas.{all_through}
-use Rattle.lifeguard_crew.specs.declared.one_thread.RoundEnd.{RoundEnd}
-use Rattle.lifeguard_crew.specs.declared.one_thread.RoundEnd.TheVariants.{Moved, Waited, Ended}
+use Rattle.lifeguard_crew.specs.declared.round_end.RoundEnd.{RoundEnd}
+use Rattle.lifeguard_crew.specs.declared.round_end.RoundEnd.TheVariants.{Moved, Waited, Ended}
 use Rattle.lifeguard_crew.specs.inner.Rounds.{left, lasting, AreSame, IsAtWait, IsRound, IsAdvance, taught, HaveHeardAll}
 use Rattle.lifeguard_crew.proofs.Same.{at_place, of_map}
 use Rattle.lifeguard_crew.proofs.Heard.{taught_same}

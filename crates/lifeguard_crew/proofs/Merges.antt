@@ -99,7 +99,7 @@ plain_along rules before (e ∷ es) state =
     let along : Along (length before + 1) es rest.0 = subst (λ (n : ℕ). Along n es rest.0) (length_push before e) rest.2 in
     let all : (plain_from rules (before ++ e ∷ []) next es).reports ≡ state.reports ++ (a ++ rest.0) =
     rest.1 ∙ (ap (λ (z : List Report). z ++ rest.0) (rule_reports rules at e.kind state) ∙ append_assoc state.reports a rest.0) in
-    (a ++ rest.0, all, a, rest.0, refl, event_on at rules e.kind state, along)
+    (a ++ rest.0, all, (a, rest.0, refl, event_on at rules e.kind state, along))
 
 above : (n : ℕ) (es : List Event) (rs : List Report) → Along n es rs → Every (λ r. n < r.place) rs
 above n [] rs along = subst (Every (λ r. n < r.place)) (sym along) tt
@@ -147,15 +147,16 @@ one_hart harts n (e ∷ es) rs along inside p =
 
 -- ---- the reports of each hart, one after the other
 
+two_more : (f g : Report → Bool) (x : Report) (xs : List Report) → filter f (filter g xs) ≡ filter g (filter f xs) → (a b : Bool) → f x ≡ a → g x ≡ b
+    → filter f (filter g (x ∷ xs)) ≡ filter g (filter f (x ∷ xs))
+two_more f g x xs rest true true p q = rw (p, q) (ap (λ (ys : List Report). x ∷ ys) rest)
+two_more f g x xs rest true false p q = rw (p, q) rest
+two_more f g x xs rest false true p q = rw (p, q) rest
+two_more f g x xs rest false false p q = rw (p, q) rest
+
 two_tests : (f g : Report → Bool) (xs : List Report) → filter f (filter g xs) ≡ filter g (filter f xs)
 two_tests f g [] = refl
-two_tests f g (x ∷ xs) = both (f x) (g x) refl refl
-  where
-    both : (a b : Bool) → f x ≡ a → g x ≡ b → filter f (filter g (x ∷ xs)) ≡ filter g (filter f (x ∷ xs))
-    both true true p q = rw (p, q) (rw (p, q) (ap (λ (ys : List Report). x ∷ ys) (two_tests f g xs)))
-    both true false p q = rw (p, q) (rw q (two_tests f g xs))
-    both false true p q = rw (p, q) (rw p (two_tests f g xs))
-    both false false p q = rw (p, q) (two_tests f g xs)
+two_tests f g (x ∷ xs) = two_more f g x xs (two_tests f g xs) (f x) (g x) refl refl
 
 own_hart : (h : ℕ) (xs : List Report) → Every (λ r. r.hart ≡ h) xs → reports_on h xs ≡ xs
 own_hart h [] all = refl

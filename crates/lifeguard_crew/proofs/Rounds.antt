@@ -6,8 +6,8 @@ use Rattle.atomic_table.proofs.Lists.{at_set, set_here, set_else}
 use Rattle.order_core.proofs.Flatten.{inside}
 use Rattle.turn_worker.specs.Workers.{WorkerView, size}
 use Rattle.turn_worker.specs.Turns.{HasEnded}
-use Rattle.lifeguard_crew.specs.declared.one_thread.RoundEnd.{RoundEnd}
-use Rattle.lifeguard_crew.specs.declared.one_thread.RoundEnd.TheVariants.{Moved, Waited, Ended}
+use Rattle.lifeguard_crew.specs.declared.round_end.RoundEnd.{RoundEnd}
+use Rattle.lifeguard_crew.specs.declared.round_end.RoundEnd.TheVariants.{Moved, Waited, Ended}
 use Rattle.lifeguard_crew.specs.inner.Rounds.{left, lasting, AreSame, IsAtWait, IsTurn, both, IsRoundEnd, IsRound}
 use Rattle.lifeguard_crew.proofs.Same.{same_self}
 

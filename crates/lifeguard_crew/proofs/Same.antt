@@ -1,5 +1,5 @@
 -- What does not change while workers are turned and taught.
-use Rattle.std.proofs.Common.{◌≡◌, ℕ, zero, suc, ◌<◌, ◌≤◌, List, [], ◌∷◌, length, map, get_or, refl, sym, ap, ◌∙◌, arith}
+use Rattle.std.proofs.Common.{◌≡◌, ℕ, zero, suc, ◌<◌, ◌≤◌, List, [], ◌∷◌, length, map, get_or, refl, sym, ap, ◌∙◌, subst, arith}
 use Rattle.std.proofs.Math.Logic.{∥∥₁_elim}
 use Rattle.std.proofs.Props.{props}
 use Rattle.std.proofs.lemmas.List.{length-map}
@@ -114,6 +114,17 @@ module _ {P W : Type 0} (planned : P → Planned) (view : W → WorkerView) (m :
 pub few_harts : (c : Course) → ∥ IsLawful c ∥₁ → c.log.harts ≤ 8
 few_harts c lawful = let p : IsProp (c.log.harts ≤ 8) = hlevel props in ∥∥₁_elim lawful p (λ law. law.log.opening.few)
 
+-- the seat of a worker that has ended
+pub seat_at_end : {P : Type 0} (planned : P → Planned) (m : Monitor P) (v : WorkerView) → IsSound v → IsReady planned m v
+    → HasEnded v → (s : GuardSeat) → (seat_view s ≡ v.seat) × IsOfTable v.table s → IsSeatAtEnd planned m v.seat.hart s
+seat_at_end planned m v sound ready end s found =
+    let told = ap (λ (z : View). z.progress) found.0 ∙ end.used.told ∙ end.used.all ∙ sound.whole ready.ended in
+    record {
+      of = (found.1 ∙ ready.at.0, ap (λ (z : View). z.course) found.0 ∙ ready.at.1);
+      hart = ap (λ (z : View). z.hart) found.0;
+      end = told ∙ ap (λ (z : Course). length_of z v.seat.hart) ready.at.1;
+    }
+
 -- what was found of the workers at the end was found of those at the start
 module _ {P W : Type 0} (planned : P → Planned) (view : W → WorkerView) (sound : (w : W) → IsSound (view w)) (m : Monitor P)
     (ws us : List W) (crew : IsReadyCrew planned view m ws) (same : AreSame (map view ws) (map view us)) where
@@ -121,15 +132,8 @@ module _ {P W : Type 0} (planned : P → Planned) (view : W → WorkerView) (sou
       → (seat_view s ≡ (view u).seat) × IsOfTable (view u).table s → IsSeatAtEnd planned m k s
   ended_seat k u s here end found =
       let now = still_ready planned view m ws us crew same in
-      let ready = now.ready k u here in
-      let hart = now.crew.hart k u here in
-      let told = ap (λ (z : View). z.progress) found.0 ∙ end.used.told ∙ end.used.all ∙ (sound u).whole ready.ended in
-      record {
-        of = (found.1 ∙ ready.at.0, ap (λ (z : View). z.course) found.0 ∙ ready.at.1);
-        hart = ap (λ (z : View). z.hart) found.0 ∙ hart;
-        end = told ∙ ap (λ (z : Course). length_of z (view u).seat.hart) ready.at.1
-            ∙ ap (length_of (course planned (plan_of m))) hart;
-      }
+      subst (λ (h : ℕ). IsSeatAtEnd planned m h s) (now.crew.hart k u here)
+      (seat_at_end planned m (view u) (sound u) (now.ready k u here) end s found)
 
   pub finished : (f : Finished) → ((k : ℕ) (u : W) → get_elem? us k ≡ some u → HasEnded (view u))
       → HaveFound (map view us) f → IsFinished planned view m ws f

@@ -10,7 +10,13 @@
 mod finished;
 mod one_thread;
 mod reports;
+mod round_end;
+mod row;
+mod slot;
+mod threads;
+mod turns;
 
 pub use finished::Finished;
 pub use one_thread::run_one_thread;
 pub use reports::merge;
+pub use threads::run_threads;

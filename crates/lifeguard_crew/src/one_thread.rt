@@ -5,10 +5,11 @@ ghost use lib.ListN.{get_elem?};
 ghost use Rattle.turn_worker.specs.Workers.{WorkerView};
 ghost use Rattle.turn_worker.specs.Turns.{HasEnded};
 ghost use Rattle.lifeguard_crew.specs.Drivers.{IsReady, IsReadyCrew, IsFinished};
-ghost use Rattle.lifeguard_crew.specs.inner.Rounds.{both, left, heard_from, HasHeard, HaveHeardAll, IsTurn, IsRound};
+ghost use Rattle.lifeguard_crew.specs.inner.Rounds.{heard_from, HasHeard, HaveHeardAll, IsTurn, IsRound};
 ghost use Rattle.lifeguard_crew.specs.inner.Rounds.{IsAdvance, HaveFound};
 
 use crate::finished::Finished;
+use crate::round_end::RoundEnd;
 use guard_table::Monitor;
 use order_core::Plan;
 use pl_base::{NoMemory, Steps};
@@ -19,30 +20,6 @@ use turn_worker::{Turn, TurnWorker};
 
 /// How many records a worker takes in a turn, at most.
 const TURN_RECORDS: u32 = 1;
-
-/// How a turn or a round of turns ended.
-#[derive(Clone, Copy)]
-enum RoundEnd {
-    /// A worker took all records that it was asked to take.
-    Moved,
-    /// No worker did, and one waits for another.
-    Waited,
-    /// All workers have taken all records.
-    Ended,
-}
-
-impl RoundEnd {
-    // The end of both.
-    fn and(self, other: RoundEnd) -> RoundEnd
-        ensures { result ≡ both self other }
-    {
-        match (self, other) {
-            (RoundEnd::Moved, _) | (_, RoundEnd::Moved) => RoundEnd::Moved,
-            (RoundEnd::Ended, RoundEnd::Ended) => RoundEnd::Ended,
-            _ => RoundEnd::Waited,
-        }
-    }
-}
 
 // Turns a worker.
 fn turn_one<P: Plan, W: TurnWorker, L: Ledger>(

@@ -10,8 +10,8 @@ use Rattle.turn_worker.specs.Workers.{WorkerView, IsOfTable, size}
 use Rattle.turn_worker.specs.Results.{IsResult}
 use Rattle.turn_worker.specs.Turns.{IsWaiting, HasEnded}
 use Rattle.lifeguard_crew.specs.declared.finished.Finished.{Finished}
-use Rattle.lifeguard_crew.specs.declared.one_thread.RoundEnd.{RoundEnd}
-use Rattle.lifeguard_crew.specs.declared.one_thread.RoundEnd.TheVariants.{Moved, Waited, Ended}
+use Rattle.lifeguard_crew.specs.declared.round_end.RoundEnd.{RoundEnd}
+use Rattle.lifeguard_crew.specs.declared.round_end.RoundEnd.TheVariants.{Moved, Waited, Ended}
 
 -- how many records the workers have not taken
 abbrev pub left : List WorkerView → ℕ

@@ -3,8 +3,8 @@ use Rattle.std.proofs.lemmas.List.{length-map}
 use Rattle.order_core.specs.Course.{course}
 use Rattle.guard_table.specs.Seats.{plan_of}
 use Rattle.turn_worker.specs.Workers.{WorkerView}
-use Rattle.lifeguard_crew.specs.declared.one_thread.RoundEnd.{RoundEnd}
-use Rattle.lifeguard_crew.specs.declared.one_thread.RoundEnd.TheVariants.{Moved, Waited, Ended}
+use Rattle.lifeguard_crew.specs.declared.round_end.RoundEnd.{RoundEnd}
+use Rattle.lifeguard_crew.specs.declared.round_end.RoundEnd.TheVariants.{Moved, Waited, Ended}
 use Rattle.lifeguard_crew.specs.inner.Rounds.{IsRound, AreSame, IsAdvance}
 use Rattle.lifeguard_crew.proofs.Same.{still_ready, same_then}
 use Rattle.lifeguard_crew.proofs.Heard.{taught_same}

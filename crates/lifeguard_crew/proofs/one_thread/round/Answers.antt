@@ -1,7 +1,7 @@
 use Rattle.std.proofs.Common.{◌≡◌, ◌+◌, ◌<◌, ℕ, List, length, map, set, get_or, sym, subst, arith}
 use Rattle.atomic_table.proofs.Lists.{at_map}
 use Rattle.turn_worker.specs.Workers.{WorkerView}
-use Rattle.lifeguard_crew.specs.declared.one_thread.RoundEnd.{RoundEnd}
+use Rattle.lifeguard_crew.specs.declared.round_end.RoundEnd.{RoundEnd}
 use Rattle.lifeguard_crew.specs.inner.Rounds.{IsRound, both}
 use Rattle.lifeguard_crew.proofs.Same.{at_get, still_ready}
 use Rattle.lifeguard_crew.proofs.Heard.{map_set}

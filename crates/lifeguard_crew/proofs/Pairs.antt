@@ -1,5 +1,5 @@
 -- Two lists of one length that grow together.
-use Rattle.std.proofs.Common.{◌≡◌, ℕ, zero, suc, ◌<◌, List, [], ◌∷◌, ◌++◌, length, map, get_or, refl, sym, ap, subst, arith}
+use Rattle.std.proofs.Common.{◌≡◌, ℕ, zero, suc, ◌<◌, List, [], ◌∷◌, ◌++◌, length, map, get_or, take, drop, refl, sym, ap, subst, arith}
 use mathlib.Core.Option.{some, some-injective, some-ne-none}
 use lib.ListN.{get_elem?}
 
@@ -22,3 +22,13 @@ pairs_more Q (u ∷ xs) (v ∷ ys) x y e old new (suc k) a b at_a at_b =
 pub map_self : {A : Type 0} (xs : List A) → map (λ x. x) xs ≡ xs
 map_self [] = refl
 map_self (x ∷ xs) = ap (λ ys. x ∷ ys) (map_self xs)
+
+-- a slice of the whole Vec, written back
+pub written_back : {A : Type 0} (n : ℕ) (old new : List A) → n ≡ length old → length new ≡ length old
+    → take n (new ++ drop (length new) old) ≡ new
+written_back zero [] [] e f = refl
+written_back (suc n) [] [] e f = absurd (omega arith)
+written_back n [] (y ∷ new) e f = absurd (omega arith)
+written_back n (x ∷ old) [] e f = absurd (omega arith)
+written_back zero (x ∷ old) (y ∷ new) e f = absurd (omega arith)
+written_back (suc n) (x ∷ old) (y ∷ new) e f = ap (λ ys. y ∷ ys) (written_back n old new (omega arith) (omega arith))

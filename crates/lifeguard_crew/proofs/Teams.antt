@@ -69,8 +69,8 @@ module _ {P W : Type 0} (planned : P → Planned) (view : W → WorkerView) (m :
   pub pass_self : (rows : List Row) → Pass rows rows
   pass_self rows = record { may = λ e. e; fits = λ h v e. e; manned = λ h s. s }
 
-  pub pass_then : (as bs cs : List Row) → Pass as bs → Pass bs cs → Pass as cs
-  pass_then as bs cs p q = record {
+  pub pass_then : (us vs ws : List Row) → Pass us vs → Pass vs ws → Pass us ws
+  pass_then us vs ws p q = record {
     may = λ e. q.may (p.may e);
     fits = λ h v e. q.fits h v (p.fits h v e);
     manned = λ h s. q.manned h (p.manned h s);

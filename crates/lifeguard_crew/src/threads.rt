@@ -50,7 +50,10 @@ fn shift<P: Plan, W: TurnWorker, G: Gate, R: Wait>(
     requires may { AllMayTurn P.planned W.view monitor.now row.items }
     ensures { IfSome result (λ r. IsBack P.planned W.view monitor.now row.items r.items) }
 {
-    if called_back || run_row(rt, monitor, gate, stop, row.as_mut_slice()) {
+    if called_back {
+        return Some(row);
+    }
+    if run_row(rt, monitor, gate, stop, row.as_mut_slice()) {
         Some(row)
     } else {
         None
@@ -75,6 +78,8 @@ fn start<
     i: u8,
     theirs: Vec<Slot<W>>,
 ) -> Result<Thread<P, W>, Option<Vec<Slot<W>>>>
+where
+    W::Guard: Send,
     requires few { length theirs.items ≤ MAX_HARTS }
     requires may { AllMayTurn P.planned W.view monitor.now theirs.items }
     ensures ok { IfOk result (λ t.
@@ -122,6 +127,8 @@ fn give<
     row: &mut [Slot<W>],
     threads: &mut Vec<Thread<P, W>>,
 ) -> bool
+where
+    W::Guard: Send,
     requires few { length row.old ≤ MAX_HARTS }
     requires len { length theirs.items ≡ length row.old }
     requires theirs { AllMayTurn P.planned W.view monitor.now theirs.items }
@@ -168,6 +175,8 @@ fn hand_out<
     row: &mut [Slot<W>],
     threads: &mut Vec<Thread<P, W>>,
 ) -> bool
+where
+    W::Guard: Send,
     requires n { 1 ≤ n }
     requires few { length row.old ≤ MAX_HARTS }
     requires may { AllMayTurn P.planned W.view monitor.now row.old }
@@ -230,6 +239,8 @@ fn run_apart<
     n: u8,
     row: &mut [Slot<W>],
 ) -> bool
+where
+    W::Guard: Send,
     requires n { 1 ≤ n }
     requires few { length row.old ≤ MAX_HARTS }
     requires may { AllMayTurn P.planned W.view monitor.now row.old }
@@ -279,6 +290,8 @@ fn run_all<
     n: u8,
     mut row: Vec<Slot<W>>,
 ) -> Option<Vec<Slot<W>>>
+where
+    W::Guard: Send,
     requires n { 1 ≤ n }
     requires few { length row.items ≤ MAX_HARTS }
     requires may { AllMayTurn P.planned W.view monitor.now row.items }
@@ -312,6 +325,8 @@ fn in_scope<R: Threads + Wait + Sync, P: Plan + Sync, W: TurnWorker + Send, G: G
     gate: &G,
     row: Vec<Slot<W>>,
 ) -> Option<Vec<Slot<W>>>
+where
+    W::Guard: Send,
     requires n { 1 ≤ n }
     requires few { length row.items ≤ MAX_HARTS }
     requires may { AllMayTurn P.planned W.view monitor.now row.items }
@@ -353,6 +368,8 @@ pub fn run_threads<R: Threads + Wait + Sync, P: Plan + Sync, W: TurnWorker + Sen
     n: u8,
     gate: &G,
 ) -> Result<Finished, NoMemory>
+where
+    W::Guard: Send,
     requires { IsReadyCrew P.planned W.view monitor.now workers.items }
     ensures { IfOk result (IsFinished P.planned W.view monitor.now workers.items) }
 {

@@ -33,8 +33,8 @@ loop-thread-preserved g c =
       passes = pass_then planned view m before (gave ∷ own ∷ rows) (new ∷ rows) kept (pass_joined planned view m own gave new rows c.put_back.ensures);
     }
 
-pub returns-clause-passes : goal.returns-clause-passes
-returns-clause-passes g c on =
+pub returns : goal.returns
+returns g c on =
     let planned = g.P.Plan.planned in
     let view = g.W.TurnWorker.view in
     let m = c.args.monitor.now in

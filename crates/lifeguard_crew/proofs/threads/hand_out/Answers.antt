@@ -5,7 +5,7 @@ use Rattle.lifeguard_crew.proofs.Teams.{pass_self, pass_then, pass_split}
 use Rattle.lifeguard_crew.proofs.threads.hand_out.Goals as goal
 
 pub give-requires-clause-theirs : goal.give-requires-clause-theirs
-give-requires-clause-theirs g c =
+give-requires-clause-theirs g c κs within =
     let planned = g.P.Plan.planned in
     let view = g.W.TurnWorker.view in
     let m = c.args.monitor.now in

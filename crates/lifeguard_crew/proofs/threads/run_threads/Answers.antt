@@ -10,14 +10,14 @@ use Rattle.lifeguard_crew.proofs.Finish.{may_start, found_row, finished_row}
 use Rattle.lifeguard_crew.proofs.threads.run_threads.Goals as goal
 
 pub in_scope-requires-clause-few : goal.in_scope-requires-clause-few
-in_scope-requires-clause-few g c =
+in_scope-requires-clause-few g c κs within =
     let ws = c.args.workers.items in
     let long : length c.in_ok-row.row.items ≡ length ws = ap length c.in_ok-row.ensures ∙ length-map ws (manned {W = g.row.W.Denot}) in
     let few = few_harts (course g.P.Plan.planned (plan_of c.args.monitor.now)) (g.met.P.Plan.lawful (plan_of c.args.monitor.now)) in
     omega (arith, long, few, c.requires.crew.size)
 
 pub in_scope-requires-clause-may : goal.in_scope-requires-clause-may
-in_scope-requires-clause-may g c =
+in_scope-requires-clause-may g c κs within =
     let planned = g.P.Plan.planned in
     let view = g.W.TurnWorker.view in
     subst (AllMayTurn planned view c.args.monitor.now) (sym c.in_ok-row.ensures) (may_start planned view c.args.monitor.now c.args.workers.items c.requires)

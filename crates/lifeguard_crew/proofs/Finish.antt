@@ -1,5 +1,5 @@
 -- What the rows of a run have at its end.
-use Rattle.std.proofs.Common.{◌≡◌, ◌⊎◌, ℕ, zero, suc, ◌<◌, ◌≤◌, List, [], ◌∷◌, length, map, get_or, Result, Ok, Err, IfOk, refl, sym, ap, ◌∙◌, subst, arith, inl, ⊎_elim}
+use Rattle.std.proofs.Common.{◌≡◌, ◌⊎◌, ℕ, zero, suc, ◌<◌, ◌≤◌, List, [], ◌∷◌, length, map, get_or, Result, Ok, Err, IfOk, Vec, Global, refl, sym, ap, ◌∙◌, subst, arith, inl, ⊎_elim}
 use Rattle.std.proofs.lemmas.List.{length-map}
 use mathlib.Core.Option.{some, some-injective, some-ne-none}
 use mathlib.Core.Logic.{dite}
@@ -7,7 +7,8 @@ use native.Mathlib.Decide.{dec_le}
 use lib.ListN.{get_elem?}
 use Rattle.pl_base.specs.declared.outside.NoMemory.{NoMemory}
 use Rattle.order_core.proofs.Flatten.{inside}
-use Rattle.order_core.specs.Course.{Planned}
+use Rattle.order_core.specs.Course.{Planned, course}
+use Rattle.guard_table.specs.Seats.{plan_of}
 use Rattle.guard_table.specs.declared.seats.GuardSeat.{GuardSeat}
 use Rattle.guard_table.specs.declared.seats.Monitor.{Monitor}
 use Rattle.turn_worker.specs.declared.worker.HartResult.{HartResult}
@@ -85,3 +86,13 @@ module _ {P W : Type 0} (planned : P → Planned) (view : W → WorkerView) (m :
           let is = each k r.0 s (omega arith) ∙ (λ i. Ended (get_at f.results.items k r.0 r.0 r.1 i) (get_at f.seats.items k s s here i)) in
           (has_ended k w.0 r.0 s w.1 is).1;
     }
+
+pub few_slots : {P W : Type 0} (planned : P → Planned) (view : W → WorkerView) (m : Monitor P) (ws : List W) → IsReadyCrew planned view m ws
+    → (course planned (plan_of m)).log.harts ≤ 8 → (o : Result (Vec (Slot W) Global) NoMemory) → IfOk o (λ row. row.items ≡ map manned ws)
+    → IfOk o (λ row. length row.items ≤ 8)
+few_slots planned view m ws crew few (Err e) is = is
+few_slots {W = W} planned view m ws crew few (Ok row) is =
+    let long : length (map (manned {W = W}) ws) ≡ length ws = length-map ws (manned {W = W}) in
+    let size : length ws ≡ (course planned (plan_of m)).log.harts = crew.crew.size in
+    let items : length row.items ≡ length (map (manned {W = W}) ws) = ap length is in
+    omega arith

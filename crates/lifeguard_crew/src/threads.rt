@@ -1,8 +1,9 @@
 //! The driver of several threads, each with a row of its own.
+ghost use denote.Param.Send.{IsSend};
 ghost use Rattle.std.specs.Prelude.{◌≡◌, ◌<◌, ◌≤◌, ◌∷◌, [], IfErr, IfOk, IfSome, IsTrue, length, map};
 ghost use Rattle.pl_base.specs.declared.layout.TheConstants.{MAX_HARTS};
 ghost use Rattle.lifeguard_crew.specs.Drivers.{IsReadyCrew, IsFinished};
-ghost use Rattle.lifeguard_crew.specs.inner.Slots.{AreAtRest, AllMayTurn};
+ghost use Rattle.lifeguard_crew.specs.inner.Slots.{manned, AreAtRest, AllMayTurn};
 ghost use Rattle.lifeguard_crew.specs.inner.Rows.{IsBack, HasRow, Each, Passes};
 
 use crate::finished::Finished;
@@ -342,7 +343,7 @@ where
         thread::scope_env(),
         rt,
         move |scope| -> Option<Vec<Slot<W>>>
-            requires { (1 ≤ n) × (length row.items ≤ MAX_HARTS)
+            requires { IsSend W.Guard.row × (1 ≤ n) × (length row.items ≤ MAX_HARTS)
                 × AllMayTurn P.planned W.view monitor.now row.items }
             ensures len { IfSome result (λ r. length r.items ≡ length row.items) }
             ensures passes { IfSome result (λ r.
@@ -350,6 +351,19 @@ where
             ensures rests { IfSome result (λ r. AreAtRest r.items) }
         { run_all(scope, rt, alloc, monitor, gate, stop, back, n, row) },
     )
+}
+
+// A row with every worker of a crew in its slot.
+fn man_crew<P: Plan, W: TurnWorker>(
+    alloc: Global,
+    _monitor: &Monitor<P>,
+    workers: Vec<W>,
+) -> Result<Vec<Slot<W>>, NoMemory>
+    requires { IsReadyCrew P.planned W.view _monitor.now workers.items }
+    ensures row { IfOk result (λ row. row.items ≡ map manned workers.items) }
+    ensures few { IfOk result (λ row. length row.items ≤ MAX_HARTS) }
+{
+    man(alloc, workers)
 }
 
 /// Runs the workers of all harts on n threads, of which the caller's is one: that of hart h on thread h mod n.
@@ -373,7 +387,7 @@ where
     requires { IsReadyCrew P.planned W.view monitor.now workers.items }
     ensures { IfOk result (IsFinished P.planned W.view monitor.now workers.items) }
 {
-    let row = man(alloc, workers)?;
+    let row = man_crew(alloc, monitor, workers)?;
     let Some(ended) = in_scope(rt, alloc, monitor, n.max(1), gate, row) else {
         return Err(NoMemory);
     };

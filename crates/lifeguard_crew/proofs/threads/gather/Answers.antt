@@ -34,11 +34,13 @@ loop-thread-preserved g c =
     }
 
 pub returns : goal.returns
-returns g c on =
+returns g c =
     let planned = g.P.Plan.planned in
     let view = g.W.TurnWorker.view in
     let m = c.args.monitor.now in
     let none : length c.loop-thread.threads.items ≡ 0 = search rules in
     let before : List (List (Slot g.row.W.Denot)) = c.args.row.now ∷ map (λ x. x.promise.row.value.items) c.args.threads.items in
-    subst (λ z. Passes planned view m before (c.loop-thread.row ∷ map (λ x. x.promise.row.value.items) z)) (nil_of c.loop-thread.threads.items none)
-    c.loop-thread.invariant.passes
+    record {
+      passes = λ on. subst (λ z. Passes planned view m before (c.loop-thread.row ∷ map (λ x. x.promise.row.value.items) z))
+          (nil_of c.loop-thread.threads.items none) c.loop-thread.invariant.passes;
+    }

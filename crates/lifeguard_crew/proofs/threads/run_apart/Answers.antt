@@ -18,5 +18,5 @@ returns-clause-passes g c on =
     let ran : IsTrue c.run_row.result = search rules in
     let gathered : IsTrue c.gather.result = search rules in
     let a = pass_then planned view m first (one ∷ rows) (two ∷ rows) (c.hand_out.ensures.passes handed) (pass_kept planned view m one two rows (c.run_row.ensures.keeps ran)) in
-    let b = pass_then planned view m first (two ∷ rows) (three ∷ []) a (c.gather.ensures gathered) in
+    let b = pass_then planned view m first (two ∷ rows) (three ∷ []) a (c.gather.ensures.passes gathered) in
     pass_then planned view m first (three ∷ []) (four ∷ []) b (pass_kept planned view m three four [] (c.run_row-2.ensures.keeps on))

@@ -1,26 +1,16 @@
 use Rattle.std.proofs.Common.{◌≡◌, ◌<◌, ◌≤◌, ℕ, List, [], ◌∷◌, length, map, ap, sym, ◌∙◌, subst, arith}
 use Rattle.std.proofs.lemmas.List.{length-map}
-use Rattle.order_core.specs.Course.{course}
-use Rattle.guard_table.specs.Seats.{plan_of}
 use Rattle.lifeguard_crew.specs.declared.slot.Slot.{Slot}
 use Rattle.lifeguard_crew.specs.inner.Slots.{manned, AllMayTurn}
 use Rattle.lifeguard_crew.specs.inner.Rows.{Passes}
-use Rattle.lifeguard_crew.proofs.Same.{few_harts}
 use Rattle.lifeguard_crew.proofs.Finish.{may_start, found_row, finished_row}
 use Rattle.lifeguard_crew.proofs.threads.run_threads.Goals as goal
-
-pub in_scope-requires-clause-few : goal.in_scope-requires-clause-few
-in_scope-requires-clause-few g c κs within =
-    let ws = c.args.workers.items in
-    let long : length c.in_ok-row.row.items ≡ length ws = ap length c.in_ok-row.ensures ∙ length-map ws (manned {W = g.row.W.Denot}) in
-    let few = few_harts (course g.P.Plan.planned (plan_of c.args.monitor.now)) (g.met.P.Plan.lawful (plan_of c.args.monitor.now)) in
-    omega (arith, long, few, c.requires.crew.size)
 
 pub in_scope-requires-clause-may : goal.in_scope-requires-clause-may
 in_scope-requires-clause-may g c κs within =
     let planned = g.P.Plan.planned in
     let view = g.W.TurnWorker.view in
-    subst (AllMayTurn planned view c.args.monitor.now) (sym c.in_ok-row.ensures) (may_start planned view c.args.monitor.now c.args.workers.items c.requires)
+    subst (AllMayTurn planned view c.args.monitor.now) (sym c.in_ok-row.ensures.row) (may_start planned view c.args.monitor.now c.args.workers.items c.requires)
 
 pub collect-requires : goal.collect-requires
 collect-requires g c =
@@ -29,9 +19,9 @@ collect-requires g c =
     let m = c.args.monitor.now in
     let ws = c.args.workers.items in
     let row : List (Slot g.row.W.Denot) = c.in-Some.ended.items in
-    let long : length c.in_ok-row.row.items ≡ length ws = ap length c.in_ok-row.ensures ∙ length-map ws (manned {W = g.row.W.Denot}) in
+    let long : length c.in_ok-row.row.items ≡ length ws = ap length c.in_ok-row.ensures.row ∙ length-map ws (manned {W = g.row.W.Denot}) in
     let passes : Passes planned view m (map manned ws ∷ []) (row ∷ []) =
-    subst (λ (z : List (Slot g.row.W.Denot)). Passes planned view m (z ∷ []) (row ∷ [])) c.in_ok-row.ensures c.in-Some.ensures.passes in
+    subst (λ (z : List (Slot g.row.W.Denot)). Passes planned view m (z ∷ []) (row ∷ [])) c.in_ok-row.ensures.row c.in-Some.ensures.passes in
     found_row planned view m ws c.requires row (c.in-Some.ensures.len ∙ long) passes c.in-Some.ensures.rests
 
 pub returns : goal.returns
@@ -41,8 +31,8 @@ returns g c =
     let m = c.args.monitor.now in
     let ws = c.args.workers.items in
     let row : List (Slot g.row.W.Denot) = c.in-Some.ended.items in
-    let long : length c.in_ok-row.row.items ≡ length ws = ap length c.in_ok-row.ensures ∙ length-map ws (manned {W = g.row.W.Denot}) in
+    let long : length c.in_ok-row.row.items ≡ length ws = ap length c.in_ok-row.ensures.row ∙ length-map ws (manned {W = g.row.W.Denot}) in
     let passes : Passes planned view m (map manned ws ∷ []) (row ∷ []) =
-    subst (λ (z : List (Slot g.row.W.Denot)). Passes planned view m (z ∷ []) (row ∷ [])) c.in_ok-row.ensures c.in-Some.ensures.passes in
+    subst (λ (z : List (Slot g.row.W.Denot)). Passes planned view m (z ∷ []) (row ∷ [])) c.in_ok-row.ensures.row c.in-Some.ensures.passes in
     finished_row planned view m ws c.requires row (c.in-Some.ensures.len ∙ long) passes c.in-Some.ensures.rests
     c.collect.result c.collect.ensures.results c.collect.ensures.seats c.collect.ensures.each

@@ -1,5 +1,4 @@
 //! The driver of several threads, each with a row of its own.
-ghost use denote.Param.Send.{IsSend};
 ghost use Rattle.std.specs.Prelude.{◌≡◌, ◌<◌, ◌≤◌, ◌∷◌, [], IfErr, IfOk, IfSome, IsTrue, length, map};
 ghost use Rattle.pl_base.specs.declared.layout.TheConstants.{MAX_HARTS};
 ghost use Rattle.lifeguard_crew.specs.Drivers.{IsReadyCrew, IsFinished};
@@ -343,7 +342,7 @@ where
         thread::scope_env(),
         rt,
         move |scope| -> Option<Vec<Slot<W>>>
-            requires { IsSend W.Guard.row × (1 ≤ n) × (length row.items ≤ MAX_HARTS)
+            requires { (1 ≤ n) × (length row.items ≤ MAX_HARTS)
                 × AllMayTurn P.planned W.view monitor.now row.items }
             ensures len { IfSome result (λ r. length r.items ≡ length row.items) }
             ensures passes { IfSome result (λ r.

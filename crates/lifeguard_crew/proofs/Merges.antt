@@ -147,12 +147,23 @@ one_hart harts n (e ∷ es) rs along inside p =
 
 -- ---- the reports of each hart, one after the other
 
-two_more : (f g : Report → Bool) (x : Report) (xs : List Report) → filter f (filter g xs) ≡ filter g (filter f xs) → (a b : Bool) → f x ≡ a → g x ≡ b
-    → filter f (filter g (x ∷ xs)) ≡ filter g (filter f (x ∷ xs))
-two_more f g x xs rest true true p q = rw (p, q) (ap (λ (ys : List Report). x ∷ ys) rest)
-two_more f g x xs rest true false p q = rw (p, q) rest
-two_more f g x xs rest false true p q = rw (p, q) rest
-two_more f g x xs rest false false p q = rw (p, q) rest
+one_test : (f : Report → Bool) (x : Report) (xs : List Report) (b : Bool) → f x ≡ b
+    → filter f (x ∷ xs) ≡ (if b then x ∷ filter f xs else filter f xs)
+one_test f x xs b p = ap (λ (z : Bool). if z then x ∷ filter f xs else filter f xs) p
+
+two_more : (f g : Report → Bool) (x : Report) (xs : List Report) → filter f (filter g xs) ≡ filter g (filter f xs)
+    → (a b : Bool) → f x ≡ a → g x ≡ b → filter f (filter g (x ∷ xs)) ≡ filter g (filter f (x ∷ xs))
+two_more f g x xs rest true true p q =
+    ap (filter f) (one_test g x xs true q) ∙ (one_test f x (filter g xs) true p ∙ (ap (λ (ys : List Report). x ∷ ys) rest
+    ∙ sym (ap (filter g) (one_test f x xs true p) ∙ one_test g x (filter f xs) true q)))
+two_more f g x xs rest true false p q =
+    ap (filter f) (one_test g x xs false q) ∙ (rest
+    ∙ sym (ap (filter g) (one_test f x xs true p) ∙ one_test g x (filter f xs) false q))
+two_more f g x xs rest false true p q =
+    ap (filter f) (one_test g x xs true q) ∙ (one_test f x (filter g xs) false p ∙ (rest
+    ∙ sym (ap (filter g) (one_test f x xs false p))))
+two_more f g x xs rest false false p q =
+    ap (filter f) (one_test g x xs false q) ∙ (rest ∙ sym (ap (filter g) (one_test f x xs false p)))
 
 two_tests : (f g : Report → Bool) (xs : List Report) → filter f (filter g xs) ≡ filter g (filter f xs)
 two_tests f g [] = refl
@@ -222,8 +233,8 @@ rises_append : (n : ℕ) (xs ys : List Report) → Every (λ r. r.place ≡ n) x
 rises_append n [] ys a b r = r
 rises_append n (x ∷ xs) ys a b r = (
   every_append (λ y. x.place ≤ y.place) xs ys
-  (every_map (λ y. y.place ≡ n) (λ y. x.place ≤ y.place) (λ y is. let own : x.place ≡ n = a.0 in omega arith) xs a.1)
-  (every_map (λ y. n < y.place) (λ y. x.place ≤ y.place) (λ y lt. let own : x.place ≡ n = a.0 in omega arith) ys b),
+      (every_map (λ y. y.place ≡ n) (λ y. x.place ≤ y.place) (λ y is. let own : x.place ≡ n = a.0 in omega arith) xs a.1)
+      (every_map (λ y. n < y.place) (λ y. x.place ≤ y.place) (λ y lt. let own : x.place ≡ n = a.0 in omega arith) ys b),
   rises_append n xs ys a.1 b r,
 )
 

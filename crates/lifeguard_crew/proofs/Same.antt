@@ -43,10 +43,10 @@ pub later_same : (n : ℕ) (v w : WorkerView) → IsLaterBy n v w → lasting w 
 later_same n v w later =
     ap lasting later.same
     ∙ ap (λ s. record v {
-        seat = record s { written = 0; progress = 0; seen = []; learnt = []; looks = [] };
-        taken = 0;
-        spare = 0;
-      }) later.seat
+      seat = record s { written = 0; progress = 0; seen = []; learnt = []; looks = [] };
+      taken = 0;
+      spare = 0;
+    }) later.seat
 
 pub result_same : (v w : WorkerView) (r : HartResult) → lasting w ≡ lasting v → IsResult w r → IsResult v r
 result_same v w r e is = record {

@@ -56,12 +56,7 @@ fn round<P: Plan, W: TurnWorker, L: Ledger>(
 }
 
 // Worker i learns how far worker j is.
-fn learn_from<P: Plan, W: TurnWorker>(
-    monitor: &Monitor<P>,
-    workers: &mut [W],
-    i: usize,
-    j: usize,
-)
+fn learn_from<P: Plan, W: TurnWorker>(monitor: &Monitor<P>, workers: &mut [W], i: usize, j: usize)
     requires ready { IsReadyCrew P.planned W.view monitor.now workers.old }
     requires i { i < length workers.old }
     requires j { j < length workers.old }

@@ -137,7 +137,8 @@ where
     ensures threads { IsTrue result → Each (λ t. HasRow monitor.now (length row.old)
         t.promise.monitor.value t.promise.row.value.items) threads.new.items }
     ensures passes { IsTrue result → Passes P.planned W.view monitor.now
-        (theirs.items ∷ row.old ∷ map (λ t. t.promise.row.value.items) threads.old.items) (row.new ∷ map (λ t. t.promise.row.value.items) threads.new.items) }
+        (theirs.items ∷ row.old ∷ map (λ t. t.promise.row.value.items) threads.old.items)
+        (row.new ∷ map (λ t. t.promise.row.value.items) threads.new.items) }
 {
     if threads.reserve(1).is_err() {
         return false;

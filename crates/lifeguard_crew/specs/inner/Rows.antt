@@ -25,8 +25,8 @@ abbrev pub HasRow : {P W : Type 0} → Monitor P → ℕ → Monitor P → List 
 HasRow m n other row = (other ≡ m) × (length row ≡ n)
 
 -- what some rows have, by hart, others have after them
-pub record Passes {P W : Type 0} (planned : P → Planned) (view : W → WorkerView) (m : Monitor P) (olds news : List (List (Slot W)))
-    : Type 0 where
+pub record Passes {P W : Type 0} (planned : P → Planned) (view : W → WorkerView) (m : Monitor P)
+    (olds news : List (List (Slot W))) : Type 0 where
   pub may : Each (AllMayTurn planned view m) olds → Each (AllMayTurn planned view m) news
   pub fits : (h : ℕ) (v : WorkerView) → Each (λ row. Fits planned view m v (slot_at row h)) olds
       → Each (λ row. Fits planned view m v (slot_at row h)) news

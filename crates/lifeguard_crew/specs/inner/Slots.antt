@@ -66,7 +66,8 @@ module _ {P W : Type 0} (planned : P → Planned) (view : W → WorkerView) (m :
 
   -- the slot has the worker that it had, or what it found
   abbrev pub KeepsSlot : Slot W → Slot W → Type 0
-  KeepsSlot old new = (MayTurn old → MayTurn new) × ((v : WorkerView) → Fits v old → Fits v new) × (IsManned old → IsManned new)
+  KeepsSlot old new = (MayTurn old → MayTurn new) × ((v : WorkerView) → Fits v old → Fits v new)
+      × (IsManned old → IsManned new)
 
   abbrev pub KeepsRow : List (Slot W) → List (Slot W) → Type 0
   KeepsRow old new = (h : ℕ) → KeepsSlot (slot_at old h) (slot_at new h)

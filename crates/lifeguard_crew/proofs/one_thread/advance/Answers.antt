@@ -1,11 +1,10 @@
-use Rattle.std.proofs.Common.{◌≡◌, ◌≤◌, ℕ, List, Bool, true, length, map, sym, ap, subst, ◌∙◌, arith}
+use Rattle.std.proofs.Common.{◌≡◌, ℕ, List, length, map, subst, arith}
 use Rattle.std.proofs.lemmas.List.{length-map}
 use Rattle.order_core.specs.Course.{course}
 use Rattle.guard_table.specs.Seats.{plan_of}
 use Rattle.turn_worker.specs.Workers.{WorkerView}
-use Rattle.lifeguard_crew.specs.declared.round_end.RoundEnd.{RoundEnd}
-use Rattle.lifeguard_crew.specs.declared.round_end.RoundEnd.TheVariants.{Moved, Waited, Ended}
-use Rattle.lifeguard_crew.specs.inner.Rounds.{IsRound, AreSame, IsAdvance}
+use Rattle.lifeguard_crew.specs.declared.round_end.RoundEnd.TheVariants.{Waited, Ended}
+use Rattle.lifeguard_crew.specs.inner.Rounds.{IsRound, AreSame}
 use Rattle.lifeguard_crew.proofs.Same.{still_ready, same_then}
 use Rattle.lifeguard_crew.proofs.Heard.{taught_same}
 use Rattle.lifeguard_crew.proofs.Advances.{advanced, all_ended}

@@ -1,4 +1,4 @@
-use Rattle.std.proofs.Common.{rules, ◌≡◌, ℕ, ◌<◌, ◌++◌, ◌∷◌, [], List, length, map, get_or, refl, sym, ap, ◌∙◌, subst, arith}
+use Rattle.std.proofs.Common.{rules, ◌≡◌, ℕ, ◌++◌, ◌∷◌, [], List, length, map, sym, ap, ◌∙◌, subst, arith}
 use Rattle.std.proofs.lemmas.Iterator.Adapters.{YieldsList-from_vec}
 use Rattle.std.proofs.lemmas.Iterator.Consumers.{YieldsList-end, YieldsList-turn}
 use Rattle.std.proofs.lemmas.List.{length_push, length-map}
@@ -9,7 +9,6 @@ use Rattle.guard_table.specs.Seats.{seat_view}
 use Rattle.turn_worker.specs.declared.worker.HartResult.{HartResult}
 use Rattle.turn_worker.specs.Workers.{IsOfTable}
 use Rattle.turn_worker.specs.Results.{IsResult}
-use Rattle.lifeguard_crew.specs.inner.Rounds.{HaveFound}
 use Rattle.lifeguard_crew.proofs.Same.{of_map}
 use Rattle.lifeguard_crew.proofs.Pairs.{at_here, pairs_more, map_self}
 use Rattle.lifeguard_crew.proofs.one_thread.end_all.Goals as goal

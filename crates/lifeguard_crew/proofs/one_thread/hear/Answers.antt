@@ -1,5 +1,4 @@
-use Rattle.std.proofs.Common.{◌≡◌, ◌≢◌, ◌+◌, ◌<◌, ◌≤◌, ℕ, List, length, map, set, refl, sym, ap, ◌∙◌, subst, arith}
-use Rattle.std.proofs.lemmas.List.{length-map}
+use Rattle.std.proofs.Common.{◌≡◌, ◌+◌, ◌<◌, ◌≤◌, ℕ, List, length, map, sym, subst, arith}
 use Rattle.atomic_table.proofs.Lists.{at_map}
 use Rattle.order_core.specs.declared.course.Course.{Course}
 use Rattle.order_core.specs.Course.{course}
@@ -7,7 +6,7 @@ use Rattle.guard_table.specs.Seats.{plan_of}
 use Rattle.turn_worker.specs.Workers.{WorkerView}
 use Rattle.lifeguard_crew.specs.inner.Rounds.{HasHeard}
 use Rattle.lifeguard_crew.proofs.Same.{at_place, still_ready, few_harts}
-use Rattle.lifeguard_crew.proofs.Heard.{none_heard, heard_more, heard_self, taught_same}
+use Rattle.lifeguard_crew.proofs.Heard.{heard_more, heard_self, taught_same}
 use Rattle.lifeguard_crew.proofs.one_thread.hear.Goals as goal
 use Rattle.lifeguard_crew.proofs.one_thread.hear.Goals.{then-j-i, else-j-i}
 

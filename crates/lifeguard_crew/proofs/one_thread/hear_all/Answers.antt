@@ -1,4 +1,4 @@
-use Rattle.std.proofs.Common.{◌≡◌, ◌≤◌, ℕ, length, map, arith}
+use Rattle.std.proofs.Common.{◌≡◌, length, map, arith}
 use Rattle.std.proofs.lemmas.List.{length-map}
 use Rattle.lifeguard_crew.proofs.Same.{still_ready}
 use Rattle.lifeguard_crew.proofs.Heard.{heard_one, taught_same}

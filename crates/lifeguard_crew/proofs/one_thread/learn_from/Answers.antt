@@ -1,9 +1,8 @@
-use Rattle.std.proofs.Common.{◌≡◌, ◌≢◌, ◌⊎◌, ℕ, ◌<◌, length, get_or, set, sym, arith, ⊎_elim, length-set}
+use Rattle.std.proofs.Common.{◌≡◌, ◌≢◌, get_or, set, sym, arith, ⊎_elim, length-set}
 use mathlib.Core.Option.{some}
 use lib.ListN.{get_elem?}
 use Rattle.atomic_table.proofs.Lists.{at_set}
 use Rattle.guard_table.specs.Seats.{note_view}
-use Rattle.turn_worker.specs.Workers.{IsAt}
 use Rattle.lifeguard_crew.proofs.Same.{at_get}
 use Rattle.lifeguard_crew.proofs.Heard.{told_one}
 use Rattle.lifeguard_crew.proofs.one_thread.learn_from.Goals as goal

@@ -1,4 +1,4 @@
-use Rattle.std.proofs.Common.{◌≡◌, ◌+◌, ◌<◌, ℕ, List, length, map, set, get_or, sym, subst, arith}
+use Rattle.std.proofs.Common.{◌+◌, ℕ, List, map, set, get_or, sym, subst, arith}
 use Rattle.atomic_table.proofs.Lists.{at_map}
 use Rattle.turn_worker.specs.Workers.{WorkerView}
 use Rattle.lifeguard_crew.specs.declared.round_end.RoundEnd.{RoundEnd}

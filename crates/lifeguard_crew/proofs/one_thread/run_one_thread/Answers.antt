@@ -1,4 +1,3 @@
-use Rattle.std.proofs.Common.{◌≡◌, ℕ, map}
 use Rattle.atomic_table.proofs.Lists.{at_map}
 use Rattle.lifeguard_crew.proofs.Same.{finished}
 use Rattle.lifeguard_crew.proofs.one_thread.run_one_thread.Goals as goal

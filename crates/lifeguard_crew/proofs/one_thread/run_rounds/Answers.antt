@@ -1,6 +1,6 @@
-use Rattle.std.proofs.Common.{◌≡◌, List, Bool, true, false, map, subst}
+use Rattle.std.proofs.Common.{List, true, map, subst}
 use Rattle.turn_worker.specs.Workers.{WorkerView}
-use Rattle.lifeguard_crew.specs.inner.Rounds.{AreSame, IsAdvance}
+use Rattle.lifeguard_crew.specs.inner.Rounds.{IsAdvance}
 use Rattle.lifeguard_crew.proofs.Same.{still_ready, same_then}
 use Rattle.lifeguard_crew.proofs.one_thread.run_rounds.Goals as goal
 

@@ -1,8 +1,7 @@
-use Rattle.std.proofs.Common.{◌≡◌, ◌<◌, ◌≤◌, ◌+◌, ℕ, [], ◌∷◌, ◌++◌, List, length, set, get_or, ap, sym, ◌∙◌, subst, rules, arith, length-append}
+use Rattle.std.proofs.Common.{◌≡◌, ◌<◌, ◌+◌, ℕ, [], ◌∷◌, ◌++◌, List, length, get_or, ap, sym, ◌∙◌, subst, rules, arith, length-append}
 use Rattle.std.proofs.lemmas.List.{get_or-set_other}
 use Rattle.guard_table.specs.declared.seats.GuardSeat.{GuardSeat}
 use Rattle.turn_worker.specs.declared.worker.HartResult.{HartResult}
-use Rattle.lifeguard_crew.specs.declared.slot.Slot.{Slot}
 use Rattle.lifeguard_crew.specs.declared.slot.Slot.TheVariants.{Idle, Ended}
 use Rattle.lifeguard_crew.specs.inner.Slots.{slot_at}
 use Rattle.lifeguard_crew.proofs.RowSteps.{any_default, collect_step}

@@ -1,4 +1,4 @@
-use Rattle.std.proofs.Common.{◌≡◌, ◌<◌, ◌≤◌, ℕ, length}
+use Rattle.std.proofs.Common.{◌≡◌, ◌<◌, ◌≤◌, ℕ}
 use Rattle.lifeguard_crew.specs.inner.Slots.{slot_at, joined}
 use Rattle.lifeguard_crew.proofs.row.put_back.Given as goal
 

@@ -1,4 +1,4 @@
-use Rattle.std.proofs.Common.{◌≡◌, ℕ, ◌∷◌, length, map, vec_len}
+use Rattle.std.proofs.Common.{◌∷◌, length, map, vec_len}
 use Rattle.lifeguard_crew.specs.inner.Rows.{Each, HasRow, Passes}
 use Rattle.lifeguard_crew.proofs.threads.gather.Given as goal
 

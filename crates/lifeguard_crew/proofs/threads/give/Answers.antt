@@ -1,7 +1,7 @@
-use Rattle.std.proofs.Common.{rules, ◌≡◌, ℕ, List, [], ◌∷◌, ◌++◌, length, map, sym, ap, ◌∙◌, subst}
+use Rattle.std.proofs.Common.{rules, ◌≡◌, List, [], ◌∷◌, ◌++◌, length, map, sym, ap, ◌∙◌, subst}
 use Rattle.std.proofs.lemmas.List.{map_push}
 use Rattle.lifeguard_crew.specs.declared.slot.Slot.{Slot}
-use Rattle.lifeguard_crew.specs.inner.Rows.{Each, HasRow, IsBack, Passes}
+use Rattle.lifeguard_crew.specs.inner.Rows.{Each, IsBack, Passes}
 use Rattle.lifeguard_crew.proofs.Teams.{each_snoc, pass_then, pass_kept, pass_joined, pass_last}
 use Rattle.lifeguard_crew.proofs.threads.give.Goals as goal
 

@@ -1,7 +1,7 @@
-use Rattle.std.proofs.Common.{rules, ◌≡◌, ℕ, IsTrue, List, [], ◌∷◌, length, map, refl, sym, ap, subst}
+use Rattle.std.proofs.Common.{rules, ℕ, IsTrue, List, [], ◌∷◌, map, sym, subst}
 use Rattle.lifeguard_crew.specs.declared.slot.Slot.{Slot}
-use Rattle.lifeguard_crew.specs.inner.Rows.{Each, HasRow, Passes}
-use Rattle.lifeguard_crew.proofs.Teams.{pass_self, pass_then, pass_split}
+use Rattle.lifeguard_crew.specs.inner.Rows.{Each, HasRow}
+use Rattle.lifeguard_crew.proofs.Teams.{pass_then, pass_split}
 use Rattle.lifeguard_crew.proofs.threads.hand_out.Goals as goal
 
 pub give-requires-clause-theirs : goal.give-requires-clause-theirs

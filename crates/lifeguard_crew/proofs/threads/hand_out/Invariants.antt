@@ -1,4 +1,4 @@
-use Rattle.std.proofs.Common.{◌≡◌, ℕ, ◌∷◌, [], length, map}
+use Rattle.std.proofs.Common.{◌∷◌, [], length, map}
 use Rattle.lifeguard_crew.specs.inner.Rows.{Each, HasRow, Passes}
 use Rattle.lifeguard_crew.proofs.threads.hand_out.Given as goal
 

@@ -1,8 +1,5 @@
-use Rattle.std.proofs.Common.{◌≡◌, ◌≤◌, length, map, ap, ◌∙◌, arith}
-use Rattle.std.proofs.lemmas.List.{length-map}
 use Rattle.order_core.specs.Course.{course}
 use Rattle.guard_table.specs.Seats.{plan_of}
-use Rattle.lifeguard_crew.specs.inner.Slots.{manned}
 use Rattle.lifeguard_crew.proofs.Same.{few_harts}
 use Rattle.lifeguard_crew.proofs.Finish.{few_slots}
 use Rattle.lifeguard_crew.proofs.threads.man_crew.Goals as goal

@@ -1,4 +1,4 @@
-use Rattle.std.proofs.Common.{rules, ◌≡◌, IsTrue, List, [], ◌∷◌, map}
+use Rattle.std.proofs.Common.{rules, IsTrue, List, [], ◌∷◌, map}
 use Rattle.lifeguard_crew.specs.declared.slot.Slot.{Slot}
 use Rattle.lifeguard_crew.proofs.Teams.{pass_then, pass_kept}
 use Rattle.lifeguard_crew.proofs.threads.run_apart.Goals as goal

@@ -1,4 +1,4 @@
-use Rattle.std.proofs.Common.{◌≡◌, List, IfSome, sym, ap, subst}
+use Rattle.std.proofs.Common.{List, IfSome, sym, ap, subst}
 use Rattle.guard_table.specs.declared.seats.Monitor.{Monitor}
 use Rattle.lifeguard_crew.specs.declared.slot.Slot.{Slot}
 use Rattle.lifeguard_crew.specs.inner.Rows.{IsBack}

@@ -1,9 +1,6 @@
-use Rattle.std.proofs.Common.{◌≡◌, ◌+◌, ◌<◌, ◌≤◌, ℕ, length, set, ap, sym, ◌∙◌, subst, arith, length-set}
+use Rattle.std.proofs.Common.{◌<◌, ℕ, length, sym, ◌∙◌, arith, length-set}
 use Rattle.lifeguard_crew.specs.declared.round_end.RoundEnd.{RoundEnd}
-use Rattle.lifeguard_crew.specs.declared.round_end.RoundEnd.TheVariants.{Ended}
-use Rattle.lifeguard_crew.specs.inner.Slots.{slot_at, IsAtRest}
 use Rattle.lifeguard_crew.proofs.SlotLemmas.{keeps_more, may_at, rests_more}
-use Rattle.lifeguard_crew.proofs.RowSteps.{past}
 use Rattle.lifeguard_crew.proofs.turns.turn_all.Goals as goal
 
 pub turn_slot-requires : goal.turn_slot-requires

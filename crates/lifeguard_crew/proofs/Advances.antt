@@ -1,5 +1,5 @@
 -- A round in which no worker moved, notes, and another round: all have ended, or fewer records are left.
-use Rattle.std.proofs.Common.{◌≡◌, ◌≢◌, ℕ, zero, suc, ◌+◌, ◌-◌, ◌<◌, ◌≤◌, ◌⊎◌, Bool, true, false, List, [], ◌∷◌, length, map, slice_index, refl, sym, ap, ◌∙◌, subst, arith, inl, inr, ⊎_elim, lt_of_not-le}
+use Rattle.std.proofs.Common.{◌≡◌, ◌≢◌, ℕ, zero, suc, ◌+◌, ◌-◌, ◌<◌, ◌≤◌, ◌⊎◌, true, false, List, [], ◌∷◌, length, map, slice_index, refl, sym, ap, ◌∙◌, subst, arith, inl, inr, ⊎_elim}
 use Rattle.std.proofs.lemmas.List.{length-map}
 use mathlib.Core.Option.{some, some-injective}
 use mathlib.Core.Logic.{dite}
@@ -9,14 +9,13 @@ use Rattle.atomic_table.proofs.Lists.{at_map}
 use Rattle.order_core.proofs.Flatten.{inside}
 use Rattle.order_core.specs.declared.course.Course.{Course}
 use Rattle.turn_worker.specs.Workers.{WorkerView, IsSound, size}
-use Rattle.turn_worker.specs.Turns.{IsWaiting, HasEnded}
-use Rattle.turn_worker.specs.Crews.{IsCrew, HaveHeard, IsThrough, IsStuck}
+use Rattle.turn_worker.specs.Turns.{HasEnded}
+use Rattle.turn_worker.specs.Crews.{IsCrew, HaveHeard, IsStuck}
 use Rattle.turn_worker.proofs.StuckLemmas.{all_through}
 use Rattle.lifeguard_crew.specs.declared.round_end.RoundEnd.{RoundEnd}
 use Rattle.lifeguard_crew.specs.declared.round_end.RoundEnd.TheVariants.{Moved, Waited, Ended}
-use Rattle.lifeguard_crew.specs.inner.Rounds.{left, lasting, AreSame, IsAtWait, IsRound, IsAdvance, taught, HaveHeardAll}
+use Rattle.lifeguard_crew.specs.inner.Rounds.{left, AreSame, IsAtWait, IsRound, IsAdvance, taught, HaveHeardAll}
 use Rattle.lifeguard_crew.proofs.Same.{at_place, of_map}
-use Rattle.lifeguard_crew.proofs.Heard.{taught_same}
 
 abbrev AtMost : List WorkerView → List WorkerView → Type 0
 AtMost vs ws = (k : ℕ) (v w : WorkerView) → get_elem? vs k ≡ some v → get_elem? ws k ≡ some w

@@ -1,6 +1,6 @@
 -- The reports of the plain rules lie along the events, so by place they are found again from those of each hart.
-use Rattle.std.proofs.Common.{◌≡◌, ◌≢◌, ℕ, zero, suc, ◌+◌, ◌<◌, ◌≤◌, ◌⊎◌, Bool, true, false, List, [], ◌∷◌, ◌++◌, length, get_or, refl, sym, ap, ◌∙◌, subst, arith, inl, inr, ⊎_elim, append-nil, append_assoc, eq-eqb, lt_of_not-le}
-use Rattle.std.specs.Prelude.{◌==◌, Option, Some, None, All, filter, flat_map, if◌then◌else◌}
+use Rattle.std.proofs.Common.{◌≡◌, ◌≢◌, ℕ, suc, ◌+◌, ◌<◌, ◌≤◌, ◌⊎◌, Bool, true, false, List, [], ◌∷◌, ◌++◌, length, get_or, refl, sym, ap, ◌∙◌, subst, arith, inl, inr, ⊎_elim, append-nil, append_assoc, eq-eqb, lt_of_not-le}
+use Rattle.std.specs.Prelude.{◌==◌, Option, Some, None, filter, if◌then◌else◌}
 use Rattle.std.specs.List.Sorted.{IsNonDecreasingBy}
 use Rattle.std.proofs.lemmas.Bool.{ne_eqb}
 use Rattle.std.proofs.lemmas.List.{length_push}
@@ -12,7 +12,6 @@ use lib.ListN.{get_elem?}
 use Rattle.pl_event.specs.declared.event.Event.{Event}
 use Rattle.pl_event.specs.declared.event.Kind.{Kind}
 use Rattle.pl_event.specs.declared.log.Log.{Log}
-use Rattle.pl_event.specs.declared.log.PageRun.{PageRun}
 use Rattle.pl_event.specs.Numbers.{events_of}
 use Rattle.lifeguard.specs.declared.report.Report.{Report}
 use Rattle.lifeguard.specs.declared.report.ReportKind.{ReportKind}

@@ -1,5 +1,5 @@
 -- One worker more has had its turn.
-use Rattle.std.proofs.Common.{◌≡◌, ◌≢◌, ℕ, zero, suc, ◌+◌, ◌-◌, ◌<◌, ◌≤◌, ◌⊎◌, List, [], ◌∷◌, length, set, refl, sym, ap, ◌∙◌, subst, arith, inl, inr, ⊎_elim, length-set}
+use Rattle.std.proofs.Common.{◌≡◌, ◌≢◌, ℕ, zero, suc, ◌+◌, ◌-◌, ◌<◌, ◌≤◌, ◌⊎◌, List, [], ◌∷◌, set, refl, sym, ap, ◌∙◌, subst, arith, inl, inr, ⊎_elim, length-set}
 use mathlib.Core.Option.{some, some-injective, some-ne-none}
 use lib.ListN.{get_elem?}
 use Rattle.atomic_table.proofs.Lists.{at_set, set_here, set_else}
@@ -8,7 +8,7 @@ use Rattle.turn_worker.specs.Workers.{WorkerView, size}
 use Rattle.turn_worker.specs.Turns.{HasEnded}
 use Rattle.lifeguard_crew.specs.declared.round_end.RoundEnd.{RoundEnd}
 use Rattle.lifeguard_crew.specs.declared.round_end.RoundEnd.TheVariants.{Moved, Waited, Ended}
-use Rattle.lifeguard_crew.specs.inner.Rounds.{left, lasting, AreSame, IsAtWait, IsTurn, both, IsRoundEnd, IsRound}
+use Rattle.lifeguard_crew.specs.inner.Rounds.{left, lasting, IsAtWait, IsTurn, both, IsRoundEnd, IsRound}
 use Rattle.lifeguard_crew.proofs.Same.{same_self}
 
 pub left_set : (vs : List WorkerView) (i : ℕ) (v w : WorkerView) → get_elem? vs i ≡ some v

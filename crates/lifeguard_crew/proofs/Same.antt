@@ -9,11 +9,11 @@ use Rattle.atomic_table.proofs.Lists.{at_map}
 use Rattle.order_core.proofs.Flatten.{inside}
 use Rattle.order_core.specs.declared.course.Course.{Course}
 use Rattle.order_core.specs.Lawful.{IsLawful}
-use Rattle.order_core.specs.Course.{Planned, course, length_of}
+use Rattle.order_core.specs.Course.{Planned, length_of}
 use Rattle.guard_table.specs.declared.view.View.{View}
 use Rattle.guard_table.specs.declared.seats.GuardSeat.{GuardSeat}
 use Rattle.guard_table.specs.declared.seats.Monitor.{Monitor}
-use Rattle.guard_table.specs.Seats.{plan_of, seat_view}
+use Rattle.guard_table.specs.Seats.{seat_view}
 use Rattle.lifeguard.specs.Ranges.{reports_on}
 use Rattle.turn_worker.specs.declared.worker.HartResult.{HartResult}
 use Rattle.turn_worker.specs.Workers.{WorkerView, IsSound, IsOfTable, size}

@@ -1,8 +1,8 @@
 -- A stable sort by place, as a list of reports sees it.
-use Rattle.std.proofs.Common.{◌≡◌, ◌≢◌, ℕ, ◌<◌, ◌≤◌, ◌⊎◌, Bool, true, false, List, [], ◌∷◌, refl, sym, ap, ◌∙◌, arith, inl, inr, ⊎_elim, eq-eqb, lt_of_not-le}
+use Rattle.std.proofs.Common.{◌≡◌, ℕ, Bool, true, false, List, [], ◌∷◌, refl, sym, ◌∙◌, arith, eq-eqb, lt_of_not-le}
 use Rattle.std.specs.Prelude.{◌==◌, nat_lt, cond, not, ◌&&◌, filter, if◌then◌else◌}
 use Rattle.std.specs.Ordering.{is_lt, nat_cmp}
-use Rattle.std.specs.List.Sorted.{ties, IsStableByKey, IsNonDecreasingBy}
+use Rattle.std.specs.List.Sorted.{ties, IsStableByKey}
 use Rattle.std.proofs.lemmas.Bool.{ne_eqb}
 use borrow.Author.Tests.{lt-ltb, le-ltb}
 use Rattle.std.specs.declared.cmp.Ordering.TheVariants.{Less, Equal, Greater}
@@ -10,7 +10,7 @@ use mathlib.Core.Logic.{dite}
 use native.Mathlib.Decide.{ℕ_discrete, dec_le}
 use Rattle.lifeguard.specs.declared.report.Report.{Report}
 use Rattle.lifeguard.specs.declared.report.ReportKind.TheVariants.{Access}
-use Rattle.lifeguard_crew.specs.Merges.{reports_at, IsByPlace}
+use Rattle.lifeguard_crew.specs.Merges.{reports_at}
 
 same_tests : (f g : Report → Bool) → ((r : Report) → f r ≡ g r) → (rs : List Report) → filter f rs ≡ filter g rs
 same_tests f g e [] = refl

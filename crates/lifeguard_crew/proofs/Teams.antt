@@ -1,26 +1,12 @@
 -- Rows that are split and joined, and the rows of the threads.
-use Rattle.std.proofs.Common.{◌≡◌, ◌⊎◌, ℕ, List, [], ◌∷◌, ◌++◌, sym, refl, ap, ◌∙◌, subst, inl, inr, ⊎_elim, length, map, zero, suc, ◌+◌, ◌<◌, ◌≤◌, get_or, Result, Ok, Err, IfOk, arith, lt_of_not-le}
-use Rattle.std.proofs.lemmas.List.{length-map}
-use mathlib.Core.Option.{some, some-injective, some-ne-none}
-use mathlib.Core.Logic.{dite}
-use native.Mathlib.Decide.{dec_le}
-use lib.ListN.{get_elem?}
-use Rattle.pl_base.specs.declared.outside.NoMemory.{NoMemory}
-use Rattle.order_core.proofs.Flatten.{inside}
+use Rattle.std.proofs.Common.{◌≡◌, ◌⊎◌, ℕ, List, [], ◌∷◌, ◌++◌, sym, refl, subst, inl, inr, ⊎_elim, length, arith}
 use Rattle.order_core.specs.Course.{Planned}
-use Rattle.guard_table.specs.declared.seats.GuardSeat.{GuardSeat}
 use Rattle.guard_table.specs.declared.seats.Monitor.{Monitor}
-use Rattle.turn_worker.specs.declared.worker.HartResult.{HartResult}
 use Rattle.turn_worker.specs.Workers.{WorkerView}
-use Rattle.turn_worker.specs.Results.{IsResult}
-use Rattle.lifeguard_crew.specs.declared.finished.Finished.{Finished}
 use Rattle.lifeguard_crew.specs.declared.slot.Slot.{Slot}
 use Rattle.lifeguard_crew.specs.declared.slot.Slot.TheVariants.{Idle, Works, Ended}
-use Rattle.lifeguard_crew.specs.Drivers.{IsReady, IsReadyCrew, IsSeatAtEnd, IsFinished}
-use Rattle.lifeguard_crew.specs.inner.Slots.{slot_at, manned, joined, IsSplit, IsManned, IsAtRest, HasFoundAll, MayTurn, AllMayTurn, Fits, KeepsRow}
+use Rattle.lifeguard_crew.specs.inner.Slots.{slot_at, joined, IsSplit, IsManned, MayTurn, AllMayTurn, Fits, KeepsRow}
 use Rattle.lifeguard_crew.specs.inner.Rows.{Each, SomeOf, Passes}
-use Rattle.lifeguard_crew.proofs.Same.{at_place}
-use Rattle.lifeguard_crew.proofs.RowSteps.{past}
 
 module _ {X : Type 0} (F : X → Type 0) where
   pub each_snoc : (xs : List X) (x : X) → Each F xs → F x → Each F (xs ++ x ∷ [])

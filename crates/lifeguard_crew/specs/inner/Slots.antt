@@ -1,5 +1,5 @@
 -- Slots, and rows of them.
-use Rattle.std.specs.Prelude.{◌≡◌, ◌⊎◌, ℕ, List, length, slice_index_or}
+use Rattle.std.specs.Prelude.{◌≡◌, ◌⊎◌, ℕ, List, slice_index_or}
 use Rattle.order_core.specs.Course.{Planned}
 use Rattle.guard_table.specs.declared.seats.Monitor.{Monitor}
 use Rattle.turn_worker.specs.Workers.{WorkerView}

@@ -1,0 +1,11 @@
+pub mod Rounds
+pub mod Merges
+pub mod Stable
+pub mod RowSteps
+pub mod Teams
+pub mod SlotLemmas
+pub mod Finish
+pub mod Same
+pub mod Pairs
+pub mod Heard
+pub mod Advances

@@ -84,4 +84,5 @@ pub no_probe : (meanings : List Meaning) (operands : List (List ℕ))
     → operands ≡ guard_word guard ∷ names_at meanings places → ⊥) → IsNoCommand meanings (codes "probe" ∷ operands)
 no_probe meanings operands none command is =
     let probe = is_taken meanings (codes "probe" ∷ operands) command is in
-    none (guard_in (word_at 0 operands)) (filter_map (place_named meanings) (drop 1 operands)) probe.1 (ap (drop 1) probe.0)
+    none (guard_in (word_at 0 operands)) (filter_map (place_named meanings) (drop 1 operands)) probe.1
+    (ap (drop 1) probe.0)

@@ -100,6 +100,9 @@ not_job (commands.Probe guard places) bytes fault input bad = bad
 not_job commands.Check bytes fault input bad = bad
 not_job commands.Run bytes fault input bad = no_job bytes input.0 fault input.1 bad
 not_job commands.List bytes fault input bad = no_job bytes input.0 fault input.1 bad
+not_job commands.Record bytes fault input bad = no_job bytes input.0 fault input.1 bad
+not_job commands.Upgrade bytes fault input bad = bad
+not_job (commands.Generate seed size) bytes fault input bad = bad
 
 not_log : (command : Command) (bytes : List ℕ) (fault : LogFault) → IsInput command bytes
     → IsBadLog (input_of command) bytes fault → ⊥
@@ -108,6 +111,9 @@ not_log (commands.Probe guard places) bytes fault input bad = bad.none input.0 i
 not_log commands.Check bytes fault input bad = bad.none input.0 input.1
 not_log commands.Run bytes fault input bad = bad
 not_log commands.List bytes fault input bad = bad
+not_log commands.Record bytes fault input bad = bad
+not_log commands.Upgrade bytes fault input bad = bad.none input.0 input.1
+not_log (commands.Generate seed size) bytes fault input bad = bad
 
 -- a lifeguard's verdict names no pair
 abbrev IsPair : Verdict → Type 0
@@ -133,6 +139,9 @@ not_unordered meanings commands.Check bytes text earlier later input a =
     no_first a.log earlier later (subst IsOrdered (a.read.one input.0 input.1) input.2) a.order
 not_unordered meanings commands.Run bytes text earlier later input a = subst IsPair a.1 tt
 not_unordered meanings commands.List bytes text earlier later input a = subst IsPair a.1 tt
+not_unordered meanings commands.Record bytes text earlier later input a = subst IsPair a.1 tt
+not_unordered meanings commands.Upgrade bytes text earlier later input a = subst IsPair a.1 tt
+not_unordered meanings (commands.Generate seed size) bytes text earlier later input a = subst IsPair a.1 tt
 
 -- ---- the whole call
 

@@ -1,8 +1,11 @@
 -- Words are one command at most: they are taken apart into the command that they came from.
-use Rattle.std.specs.Prelude.{◌≡◌, ℕ, Bool, List, [], ◌∷◌, All, codes, Option, bytes_eq}
+use Rattle.std.specs.Prelude.{◌≡◌, ℕ, ◌<◌, ◌^◌, Bool, List, [], ◌∷◌, All, codes, Option, bytes_eq}
 use Rattle.std.specs.Prelude.{if◌then◌else◌}
+use Rattle.std.specs.Fmt.{decimal}
 use Rattle.std.specs.List.{cons_option, filter_map}
-use Rattle.std.proofs.Common.{zero, suc, refl, sym, ap, subst, ◌∙◌, drop}
+use Rattle.std.specs.Str.Parse.{digits_value}
+use Rattle.std.proofs.Common.{zero, suc, refl, sym, ap, subst, ◌∙◌, drop, arith}
+use Rattle.std.proofs.lemmas.Fmt.{decimal_is_IsNumeral}
 use Rattle.std.proofs.lemmas.List.Elements.{All-head, All-tail}
 use Rattle.lifeguard.specs.declared.guard.Name.{Name}
 use Rattle.lifeguard.specs.declared.guard.Name.TheVariants as guards
@@ -11,6 +14,7 @@ use Rattle.replay_probes.specs.Meaning.{Meaning}
 use Rattle.paralog_top.specs.declared.command.Command.{Command}
 use Rattle.paralog_top.specs.declared.command.Command.TheVariants as commands
 use Rattle.paralog_top.specs.Commands.{IsAllowed, IsCommand, IsNoCommand, words_of}
+use Rattle.paralog_top.specs.Generating.{MayDraw}
 use Rattle.paralog_top.specs.ProbeNames.{AreChosen, IsFirst, names_at, place_named}
 
 -- the word at a place
@@ -36,12 +40,19 @@ taken_apart meanings words =
     commands.Probe (guard_in (word_at 1 words)) (filter_map (place_named meanings) (drop 2 words))
     else if begins words (codes "check") then commands.Check
     else if begins words (codes "run") then commands.Run
-    else commands.List
+    else if begins words (codes "list") then commands.List
+    else if begins words (codes "record") then commands.Record
+    else if begins words (codes "upgrade") then commands.Upgrade
+    else commands.Generate (digits_value 10 (word_at 1 words)) (digits_value 10 (word_at 2 words))
 
 same_guard : (guard : Name) → guard_in (guard_word guard) ≡ guard
 same_guard guards.Addr = refl
 same_guard guards.Taint = refl
 same_guard guards.Mem = refl
+
+-- a number is read from its text
+same_number : (n : ℕ) → n < 2 ^ 64 → digits_value 10 (decimal n) ≡ n
+same_number n low = (decimal_is_IsNumeral n low).1
 
 -- each name means the place that it was taken from
 same_places : (meanings : List Meaning) (places : List ℕ)
@@ -64,6 +75,11 @@ same_command meanings (commands.Probe guard places) may =
 same_command meanings commands.Check may = refl
 same_command meanings commands.Run may = refl
 same_command meanings commands.List may = refl
+same_command meanings commands.Record may = refl
+same_command meanings commands.Upgrade may = refl
+same_command meanings (commands.Generate seed size) may =
+    ap (λ (n : ℕ). commands.Generate n (digits_value 10 (decimal size))) (same_number seed (omega (arith, may.low)))
+    ∙ ap (λ (n : ℕ). commands.Generate seed n) (same_number size (omega (arith, may.few)))
 
 pub one_command : (meanings : List Meaning) (words : List (List ℕ)) (a b : Command)
     → IsCommand meanings words a → IsCommand meanings words b → a ≡ b
@@ -86,3 +102,11 @@ no_probe meanings operands none command is =
     let probe = is_taken meanings (codes "probe" ∷ operands) command is in
     none (guard_in (word_at 0 operands)) (filter_map (place_named meanings) (drop 1 operands)) probe.1
     (ap (drop 1) probe.0)
+
+-- and so are words that begin with `gen`
+pub no_generated : (meanings : List Meaning) (operands : List (List ℕ))
+    → ((seed size : ℕ) → MayDraw seed size → operands ≡ decimal seed ∷ decimal size ∷ [] → ⊥)
+    → IsNoCommand meanings (codes "gen" ∷ operands)
+no_generated meanings operands none command is =
+    let drawn = is_taken meanings (codes "gen" ∷ operands) command is in
+    none (digits_value 10 (word_at 0 operands)) (digits_value 10 (word_at 1 operands)) drawn.1 (ap (drop 1) drawn.0)

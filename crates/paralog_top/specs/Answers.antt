@@ -11,6 +11,8 @@ use Rattle.paralog_top.specs.declared.answer.Verdict.TheVariants.{Clean}
 use Rattle.paralog_top.specs.declared.command.Command.{Command}
 use Rattle.paralog_top.specs.declared.command.Command.TheVariants as command
 use Rattle.paralog_top.specs.Checks.{IsChecked}
+use Rattle.paralog_top.specs.Generating.{IsSummary}
+use Rattle.paralog_top.specs.Recordings.{IsRecordTold, IsUpgradeTold}
 use Rattle.paralog_top.specs.Results.{IsProbed, IsReplay}
 use Rattle.paralog_top.specs.Runs.{IsListing, IsRunTold}
 
@@ -21,6 +23,9 @@ IsAnswer meanings (command.Probe guard places) bytes text verdict = IsProbed mea
 IsAnswer meanings command.Check bytes text verdict = IsChecked bytes text verdict
 IsAnswer meanings command.Run bytes text verdict = IsRunTold bytes text × (verdict ≡ Clean)
 IsAnswer meanings command.List bytes text verdict = IsListing bytes text × (verdict ≡ Clean)
+IsAnswer meanings command.Record bytes text verdict = IsRecordTold bytes text × (verdict ≡ Clean)
+IsAnswer meanings command.Upgrade bytes text verdict = IsUpgradeTold bytes text × (verdict ≡ Clean)
+IsAnswer meanings (command.Generate seed size) bytes text verdict = IsSummary seed size text × (verdict ≡ Clean)
 
 abbrev pub IsLog : List ℕ → Type 0
 IsLog bytes = (log : Log) × IsLogText bytes log
@@ -35,3 +40,6 @@ IsInput (command.Probe guard places) bytes = IsLog bytes
 IsInput command.Check bytes = (log : Log) × IsLogText bytes log × IsOrdered log
 IsInput command.Run bytes = IsJob bytes
 IsInput command.List bytes = IsJob bytes
+IsInput command.Record bytes = IsJob bytes
+IsInput command.Upgrade bytes = IsLog bytes
+IsInput (command.Generate seed size) bytes = Unit {0}

@@ -1,5 +1,6 @@
 -- The commands: their words, and what they read.
 use Rattle.std.specs.Prelude.{◌≡◌, ℕ, List, [], ◌∷◌, codes}
+use Rattle.std.specs.Fmt.{decimal}
 use Rattle.lifeguard.specs.Words.{guard_word}
 use Rattle.replay_probes.specs.Meaning.{Meaning}
 use Rattle.paralog_top.specs.declared.command.Command.{Command}
@@ -7,6 +8,7 @@ use Rattle.paralog_top.specs.declared.command.Command.TheVariants as command
 use Rattle.paralog_top.specs.declared.input.Input.{Input}
 use Rattle.paralog_top.specs.declared.input.Input.TheVariants as input
 use Rattle.paralog_top.specs.Asked.{Asked}
+use Rattle.paralog_top.specs.Generating.{MayDraw}
 use Rattle.paralog_top.specs.ProbeNames.{AreChosen, names_at}
 
 -- the words of a command, where these probes were handed in
@@ -16,10 +18,14 @@ words_of meanings (command.Probe guard places) = codes "probe" ∷ guard_word gu
 words_of meanings command.Check = codes "check" ∷ []
 words_of meanings command.Run = codes "run" ∷ []
 words_of meanings command.List = codes "list" ∷ []
+words_of meanings command.Record = codes "record" ∷ []
+words_of meanings command.Upgrade = codes "upgrade" ∷ []
+words_of meanings (command.Generate seed size) = codes "gen" ∷ decimal seed ∷ decimal size ∷ []
 
 -- the command asks for nothing but what there is
 abbrev pub IsAllowed : List Meaning → Command → Type 0
 IsAllowed meanings (command.Probe guard places) = AreChosen meanings places
+IsAllowed meanings (command.Generate seed size) = MayDraw seed size
 IsAllowed meanings _ = Unit {0}
 
 -- the words are this command
@@ -41,3 +47,6 @@ input_of (command.Probe guard places) = input.Log
 input_of command.Check = input.Log
 input_of command.Run = input.Job
 input_of command.List = input.Job
+input_of command.Record = input.Job
+input_of command.Upgrade = input.Log
+input_of (command.Generate seed size) = input.Nothing

@@ -1,10 +1,12 @@
 pub mod Asked
 pub mod ProbeNames
+pub mod Generating
 pub mod Commands
 pub mod Results
 pub mod Checks
 pub mod Runs
 pub mod RunText
+pub mod Recordings
 pub mod Answers
 pub mod Refusals
 pub mod Notes

@@ -3,6 +3,7 @@ ghost use Rattle.std.specs.Prelude.{◌≡◌, ◌∷◌, MatchOption, map, stri
 ghost use Rattle.paralog_top.specs.Commands.{IsCommand, IsNoCommand, input_of};
 
 use crate::chosen::Chosen;
+use crate::generated::parse_generated;
 use crate::input::Input;
 use crate::probe::parse_probe;
 use crate::replay::parse_replay;
@@ -22,6 +23,12 @@ pub enum Command {
     Run,
     /// `list`: the listing of a job.
     List,
+    /// `record`: the log of the run of a job.
+    Record,
+    /// `upgrade`: a log as one of version 2.
+    Upgrade,
+    /// `gen s z`: the summary of the run of a job that is drawn from the number `s`, with `z` actions a hart.
+    Generate { seed: u32, size: u32 },
 }
 
 impl Command {
@@ -41,8 +48,9 @@ impl Command {
         ensures { result ≡ input_of self.now }
     {
         match self {
-            Command::Replay(_) | Command::Probe(..) | Command::Check => Input::Log,
-            Command::Run | Command::List => Input::Job,
+            Command::Replay(_) | Command::Probe(..) | Command::Check | Command::Upgrade => Input::Log,
+            Command::Run | Command::List | Command::Record => Input::Job,
+            Command::Generate { .. } => Input::Nothing,
         }
     }
 }
@@ -62,6 +70,12 @@ fn parse_operands(verb: &str, operands: &[String], probes: &[Box<dyn Probe>]) ->
         "check" if operands.is_empty() => Some(Command::Check),
         "run" if operands.is_empty() => Some(Command::Run),
         "list" if operands.is_empty() => Some(Command::List),
+        "record" if operands.is_empty() => Some(Command::Record),
+        "upgrade" if operands.is_empty() => Some(Command::Upgrade),
+        "gen" => {
+            let (seed, size) = parse_generated(operands)?;
+            Some(Command::Generate { seed, size })
+        }
         _ => None,
     }
 }

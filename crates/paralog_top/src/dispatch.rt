@@ -2,17 +2,20 @@
 ghost use Rattle.std.specs.Prelude.{[], All, map, IfOk, IfErr};
 ghost use Rattle.paralog_top.specs.Answers.{IsAnswer};
 ghost use Rattle.paralog_top.specs.Asked.{tells};
-ghost use Rattle.paralog_top.specs.Commands.{input_of};
+ghost use Rattle.paralog_top.specs.Commands.{IsAllowed, input_of};
 ghost use Rattle.paralog_top.specs.Refusals.{IsRefusal, Reads};
 
 use crate::answer::Answer;
 use crate::check::check;
 use crate::command::Command;
+use crate::generated::generated;
 use crate::list::list;
 use crate::probe::probe;
+use crate::recorded::recorded;
 use crate::refusal::Refusal;
 use crate::replay::replay;
 use crate::run::run;
+use crate::upgrade::upgrade;
 use pl_base::Source;
 use replay_probes::Probe;
 use std::alloc::Global;
@@ -24,6 +27,7 @@ pub fn answer_to<S: Source>(
     probes: Vec<Box<dyn Probe>>,
     source: &mut S,
 ) -> Result<Answer, Refusal>
+    requires allowed { IsAllowed (map (λ p. meaning p) probes.items) command }
     requires fresh { All (λ p. has_seen p []) probes.items }
     ensures ok { let input = tells S.left S.faults source.old source.new in
         IfOk result (λ answer. Reads (input_of command) input
@@ -37,5 +41,8 @@ pub fn answer_to<S: Source>(
         Command::Check => check(alloc, source),
         Command::Run => run(alloc, source),
         Command::List => list(alloc, source),
+        Command::Record => recorded(alloc, source),
+        Command::Upgrade => upgrade(alloc, source),
+        Command::Generate { seed, size } => generated(alloc, seed, size, source),
     }
 }

@@ -1,9 +1,14 @@
-use Rattle.std.proofs.Common.{map, string_bytes, subst}
+use Rattle.std.proofs.Common.{map, string_bytes, refl, subst}
 use Rattle.std.proofs.KnownBytes.{Keeps-refl}
 use Rattle.paralog_top.specs.Asked.{asks, tells}
-use Rattle.paralog_top.specs.Commands.{IsCommand, IsNoCommand}
-use Rattle.paralog_top.proofs.Calls.{delivered}
+use Rattle.paralog_top.specs.Commands.{IsAllowed, IsCommand, IsNoCommand}
+use Rattle.paralog_top.proofs.Calls.{delivered, refused}
 use Rattle.paralog_top.proofs.top.answer_words.Goals as goal
+
+pub answer_to-requires-clause-allowed : goal.answer_to-requires-clause-allowed
+answer_to-requires-clause-allowed g c =
+    subst (λ ps. IsAllowed (map (λ b. (goal.Probe-dyn g (b.vtable, b.value)).meaning b.value) ps) c.in-Some.command)
+    c.deref.ensures.value c.in-Some.ensures.1
 
 pub returns-in_default-clause-says : goal.returns-in_default-clause-says
 returns-in_default-clause-says g c =
@@ -42,3 +47,17 @@ returns-in-Err-clause-usage g c = λ none.
     absurd (none command
     (subst (λ ps. IsCommand (map (λ b. (goal.Probe-dyn g (b.vtable, b.value)).meaning b.value) ps) words command)
     c.deref.ensures.value c.in-Some.ensures))
+
+pub returns-in-Err-clause-says : goal.returns-in-Err-clause-says
+returns-in-Err-clause-says g c =
+    let words = map string_bytes c.args.words.now in
+    let asked = asks (map (λ b. (goal.Probe-dyn g (b.vtable, b.value)).meaning b.value) c.args.probes.items) words in
+    let input = tells g.S.Source.left g.S.Source.faults c.args.source.now c.answer_to.new.source in
+    let out = tells g.K.Sink.written g.K.Sink.faults c.args.out.now c.args.out.now in
+    let notes = tells g.E.Sink.written g.E.Sink.faults c.args.notes.now c.refuse.new.notes in
+    let command = c.in-Some.command in
+    let is : IsCommand asked.meanings words command =
+    subst (λ ps. IsCommand (map (λ b. (goal.Probe-dyn g (b.vtable, b.value)).meaning b.value) ps) words command)
+    c.deref.ensures.value c.in-Some.ensures in
+    refused asked input out notes command is c.in-Err.refusal c.refuse.result c.in-Err.ensures.err
+    (Keeps-refl (g.K.Sink.written c.args.out.now)) refl c.refuse.ensures

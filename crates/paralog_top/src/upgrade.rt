@@ -1,0 +1,37 @@
+//! `upgrade`: a log as one of version 2.
+ghost use Rattle.std.specs.Prelude.{◌≡◌, IfOk, IfErr};
+ghost use Rattle.paralog_top.specs.declared.input.Input.TheVariants as kinds;
+ghost use Rattle.paralog_top.specs.Asked.{tells};
+ghost use Rattle.paralog_top.specs.Recordings.{IsUpgradeTold};
+ghost use Rattle.paralog_top.specs.Refusals.{IsRefusal, Reads};
+
+use crate::answer::{Answer, Verdict};
+use crate::refusal::Refusal;
+use log_text::{log_laws, read_source};
+use pl_base::layout::MAX_LOG_BYTES;
+use pl_base::{NoMemory, Source};
+use run_record::upgrade_log;
+use std::alloc::Global;
+
+/// The log that the source has, recorded anew in blocks of 4 bytes.
+pub fn upgrade<S: Source>(alloc: Global, source: &mut S) -> Result<Answer, Refusal>
+    ensures ok { let input = tells S.left S.faults source.old source.new in
+        IfOk result (λ answer. Reads kinds.Log input
+        (λ bytes. IsUpgradeTold bytes answer.text.items × (answer.verdict ≡ Verdict.Clean))) }
+    ensures err { let input = tells S.left S.faults source.old source.new in
+        IfErr result (IsRefusal kinds.Log input) }
+{
+    match read_source(alloc, source, MAX_LOG_BYTES) {
+        Ok(log) => {
+            log_laws();
+            match upgrade_log(alloc, &log) {
+                Ok(text) => Ok(Answer {
+                    text,
+                    verdict: Verdict::Clean,
+                }),
+                Err(NoMemory) => Err(Refusal::NoMemory),
+            }
+        }
+        Err(end) => Err(Refusal::of_log(end)),
+    }
+}

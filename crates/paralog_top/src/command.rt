@@ -48,7 +48,8 @@ impl Command {
         ensures { result ≡ input_of self.now }
     {
         match self {
-            Command::Replay(_) | Command::Probe(..) | Command::Check | Command::Upgrade => Input::Log,
+            Command::Replay(_) | Command::Probe(..) | Command::Check | Command::Upgrade =>
+                Input::Log,
             Command::Run | Command::List | Command::Record => Input::Job,
             Command::Generate { .. } => Input::Nothing,
         }

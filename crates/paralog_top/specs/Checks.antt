@@ -1,16 +1,12 @@
 -- `check`: the order of a log.
 use Rattle.std.specs.Prelude.{◌≡◌, ℕ, List, [], ◌∷◌, ◌++◌, codes}
-use Rattle.std.specs.Fmt.{decimal}
 use Rattle.pl_event.specs.declared.log.Log.{Log}
-use Rattle.pl_event.specs.declared.log.Point.{Point}
 use Rattle.pl_event.specs.Conflicts.{IsOrdered}
 use Rattle.log_text.specs.Reading.{IsOnly}
+use Rattle.log_text.specs.Spelling.{point_word}
 use Rattle.log_check.specs.Answers.{NamesFirst}
 use Rattle.paralog_top.specs.declared.answer.Verdict.{Verdict}
 use Rattle.paralog_top.specs.declared.answer.Verdict.TheVariants.{Clean, Reports, Unordered}
-
-abbrev pub point_text : Point → List ℕ
-point_text point = decimal point.hart ++ 58 ∷ decimal point.number
 
 -- a log is ordered, or has this first pair that is not
 abbrev pub HasOrder : Log → Verdict → Type 0
@@ -19,7 +15,7 @@ HasOrder log Reports = ⊥
 HasOrder log (Unordered earlier later) = NamesFirst log earlier later
 
 abbrev pub order_line : Verdict → List ℕ
-order_line (Unordered earlier later) = codes "unordered " ++ point_text earlier ++ 32 ∷ point_text later ++ 10 ∷ []
+order_line (Unordered earlier later) = codes "unordered " ++ point_word earlier ++ 32 ∷ point_word later ++ 10 ∷ []
 order_line _ = codes "ordered\n"
 
 -- the bytes are this log alone, and the line says that it is ordered, or names the first pair that is not

@@ -8,9 +8,9 @@ use Rattle.pl_event.specs.declared.log.Point.{Point}
 use Rattle.guest_asm.specs.declared.cause.JobFault.{JobFault}
 use Rattle.guest_asm.specs.Words.{cause_word as job_cause_word}
 use Rattle.log_text.specs.declared.cause.LogFault.{LogFault}
+use Rattle.log_text.specs.Spelling.{point_word}
 use Rattle.log_text.specs.Words.{cause_word}
 use Rattle.paralog_top.specs.Asked.{Told}
-use Rattle.paralog_top.specs.Checks.{point_text}
 
 -- the line at which a log is bad, and the cause
 abbrev pub log_note : LogFault → List ℕ
@@ -22,7 +22,7 @@ job_note fault = codes "paralog: job line " ++ decimal fault.line ++ codes ": " 
 
 -- the earlier record first
 abbrev pub unordered_note : Point → Point → List ℕ
-unordered_note earlier later = codes "paralog: unordered " ++ point_text earlier ++ 32 ∷ point_text later ++ 10 ∷ []
+unordered_note earlier later = codes "paralog: unordered " ++ point_word earlier ++ 32 ∷ point_word later ++ 10 ∷ []
 
 abbrev pub usage_note : List ℕ
 usage_note = codes "paralog: usage\n"

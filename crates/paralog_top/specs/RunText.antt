@@ -1,14 +1,10 @@
 -- The text of a run: how each hart stands, and the bytes that the guest sent outside.
-use Rattle.std.specs.Prelude.{ℕ, ◌+◌, ◌/◌, ◌%◌, ◌==◌, ◌||◌, false, List, [], ◌∷◌, ◌++◌, length, codes, if◌then◌else◌}
+use Rattle.std.specs.Prelude.{ℕ, ◌+◌, ◌/◌, ◌%◌, ◌==◌, ◌||◌, List, [], ◌∷◌, ◌++◌, length, codes, if◌then◌else◌}
 use Rattle.std.specs.List.{enumerate_from, flat_map}
-use Rattle.std.specs.Fmt.{decimal, digits}
+use Rattle.std.specs.Fmt.{decimal}
 use Rattle.core_sim.specs.declared.hart.HartEnd.{HartEnd}
 use Rattle.core_sim.specs.declared.hart.HartEnd.TheVariants as standing
-use Rattle.log_text.specs.Spelling.{fault_word}
-
--- lower case, without leading zeros
-abbrev pub hex : ℕ → List ℕ
-hex n = digits 16 false n
+use Rattle.log_text.specs.Spelling.{fault_word, hex}
 
 -- the number of harts, and the steps that were taken
 abbrev pub head_line : ℕ → ℕ → List ℕ

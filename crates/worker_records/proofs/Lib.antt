@@ -1,0 +1,12 @@
+pub mod StepLemmas
+pub mod WordLemmas
+pub mod RegisterLemmas
+pub mod CountLemmas
+pub mod AccessLemmas
+pub mod HeldLemmas
+pub mod PlainLemmas
+pub mod OutcomeLemmas
+pub mod StoreLemmas
+pub mod FieldLemmas
+pub mod MadeLemmas
+pub mod EventLemmas

@@ -1,0 +1,9 @@
+pub mod Places
+pub mod Steps
+pub mod States
+pub mod Registers
+pub mod Words
+pub mod Checks
+pub mod Accesses
+pub mod Reports
+pub mod Plain

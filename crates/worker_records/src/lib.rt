@@ -1,0 +1,19 @@
+//! The records of a hart, one by one, on its seat at the shared table.
+//!
+//! What a worker keeps beside its seat is a state: for each register a mask or a held load, whose reads it makes when a
+//! rule asks for the mask; the frames of pages that it looked up, and the checks that passed; counts and reports. Each
+//! kind of record changes it, and a contract says that what it keeps is true of the plain run after the record, and
+//! which reads and writes it made. Loads, stores, events without operations and notices are here.
+#![tactic(auto)]
+
+mod accesses;
+mod checks;
+mod late;
+mod notices;
+mod plain;
+mod reports;
+mod state;
+mod steps;
+mod words;
+
+pub use state::{Found, State};

@@ -50,8 +50,10 @@ fn record_again(
     more: &mut Vec<Line>,
     lines: &mut Lines,
 ) -> Result<(), NoMemory>
-    requires { (size : ℕ) × (events : List Event) × MayRecord recorder.old.placer recorder.old.marker size events lines.old what }
-    ensures ok { (size : ℕ) (events : List Event) → MayRecord recorder.old.placer recorder.old.marker size events lines.old what →
+    requires { (size : ℕ) × (events : List Event)
+        × MayRecord recorder.old.placer recorder.old.marker size events lines.old what }
+    ensures ok { (size : ℕ) (events : List Event) →
+        MayRecord recorder.old.placer recorder.old.marker size events lines.old what →
         OnOk result (HasRecorded recorder.new.placer recorder.new.marker size
         (events ++ cons_option (event_of what) []) lines.new) }
     ensures harts { recorder.new.placer.harts ≡ recorder.old.placer.harts }
@@ -85,8 +87,8 @@ fn lines_again(alloc: Global, log: &Log, block: u8) -> Result<Lines, NoMemory>
     Ok(lines)
 }
 
-/// The log that a recorder of these blocks makes of the events of a log, of at most 2,000,000 records, with its pages at
-/// the start. A block has 16 or 4 bytes.
+/// The log that a recorder of these blocks makes of the events of a log, of at most 2,000,000 records, with its pages
+/// at the start. A block has 16 or 4 bytes.
 pub fn recapture(alloc: Global, log: &Log, block: u8) -> Result<Log, NoMemory>
     requires log { IsRunLog log.now }
     requires few { length log.now.lines ≤ MAX_RECORDS }

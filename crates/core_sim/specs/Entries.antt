@@ -90,8 +90,10 @@ harts_after job (e ∷ before) = slice_set (harts_after job before) e.hart e.act
 -- the turns that were begun, the latest first
 abbrev pub turns_of : Job → List Entry → List Turned
 turns_of job [] = []
-turns_of job (e ∷ before) = one_more (with_current job.schedule (turns_of job before) (live_harts (harts_after job before)))
+turns_of job (e ∷ before) =
+    one_more (with_current job.schedule (turns_of job before) (live_harts (harts_after job before)))
 
 -- the hart that the schedule names for the next entry
 abbrev pub scheduled : Job → List Entry → ℕ
-scheduled job entries = latest_hart (with_current job.schedule (turns_of job entries) (live_harts (harts_after job entries)))
+scheduled job entries =
+    latest_hart (with_current job.schedule (turns_of job entries) (live_harts (harts_after job entries)))

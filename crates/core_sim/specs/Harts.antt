@@ -13,7 +13,8 @@ is_live (Fault cause addr) = false
 -- the numbers of the live harts, rising, where the first of these harts has that number
 abbrev pub live_from : ℕ → List Standing → List ℕ
 live_from first [] = []
-live_from first (hart ∷ harts) = if is_live hart.end then (first ∷ live_from (first + 1) harts) else live_from (first + 1) harts
+live_from first (hart ∷ harts) =
+    if is_live hart.end then (first ∷ live_from (first + 1) harts) else live_from (first + 1) harts
 
 abbrev pub live_harts : List Standing → List ℕ
 live_harts = live_from 0

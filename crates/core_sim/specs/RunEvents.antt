@@ -22,7 +22,8 @@ events_of_run (e ∷ before) = events_of_run before ++ events_of_entry e
 abbrev pub mapped_after : Job → List Event → ℕ → Bool
 mapped_after job events = fold (λ mapped event. mapped_by mapped event.kind) (is_in_runs (start_runs job)) events
 
--- an event may follow these ones of a job: it is valid, its hart has not ended, and it maps and unmaps pages that may be
+-- an event may follow these ones of a job: it is valid, its hart has not ended, and it
+-- maps and unmaps pages that may be
 pub record MayFollow (job : Job) (before : List Event) (event : Event) : Type 0 where
   pub valid : IsValidEvent event job.harts
   pub live : All (λ earlier. earlier.hart ≡ event.hart → ends_hart earlier.kind ≡ false) before

@@ -38,7 +38,9 @@ round_turn q from live = record { hart = first_live from live; left = q; place =
 -- step go round from hart 0
 abbrev pub listed_turn : ℕ → List Item → List ℕ → Turn
 listed_turn at [] live = round_turn 1 0 live
-listed_turn at (item ∷ rest) live = if is_among_live live item.hart then record { hart = item.hart; left = item.count; place = Listed (at + 1) } else listed_turn (at + 1) rest live
+listed_turn at (item ∷ rest) live =
+    if is_among_live live item.hart then record { hart = item.hart; left = item.count; place = Listed (at + 1) }
+    else listed_turn (at + 1) rest live
 
 -- the live hart at the place that a number names
 abbrev pub drawn_turn : ℕ → ℕ → List ℕ → Turn
@@ -52,7 +54,8 @@ next_turn items (Drawn x q) live = drawn_turn (drawn x) q live
 
 -- the turn that the next step belongs to: the one before goes on while it has steps left and its hart is live
 abbrev pub turn_of_step : List Item → Turn → List ℕ → Turn
-turn_of_step items turn live = if nat_lt 0 turn.left && is_among_live live turn.hart then turn else next_turn items turn.place live
+turn_of_step items turn live =
+    if nat_lt 0 turn.left && is_among_live live turn.hart then turn else next_turn items turn.place live
 
 -- a turn after one of its steps
 abbrev pub stepped : Turn → Turn

@@ -17,7 +17,8 @@ use Rattle.core_sim.specs.Valid.{IsValidJob}
 -- the turn that a machine keeps after these entries, with the steps that are left of it
 abbrev pub turn_after : Job → List Entry → Turn
 turn_after job [] = no_turn job.schedule
-turn_after job (e ∷ before) = stepped (turn_of_step (items_of job.schedule) (turn_after job before) (live_harts (harts_after job before)))
+turn_after job (e ∷ before) =
+    stepped (turn_of_step (items_of job.schedule) (turn_after job before) (live_harts (harts_after job before)))
 
 -- the machine is where the run of a valid job is after these entries, which are a prefix of it
 pub record Stands (job : Job) (entries : List Entry) (machine : MachineImage) : Type 0 where

@@ -37,7 +37,8 @@ goes_on kind next = record { kind = kind; stored = []; sent = []; next = record 
 
 -- the hart has ended by a fault, which changes no register and no byte
 abbrev pub faulted : Hart → FaultCause → ℕ → Act
-faulted h cause addr = record { kind = Ft cause addr; stored = []; sent = []; next = record { state = h; end = Fault cause addr } }
+faulted h cause addr =
+    record { kind = Ft cause addr; stored = []; sent = []; next = record { state = h; end = Fault cause addr } }
 
 -- the word of text that an address names
 abbrev pub word_at : List ℕ → ℕ → Option ℕ
@@ -81,7 +82,8 @@ pub record IsFault (Why : FaultCause → Type 0) (h : Hart) (addr : ℕ) (act : 
 
 -- a store writes the low bytes of a register, the lowest first
 abbrev pub stores : Kind → List ℕ → Hart → Act
-stores kind bytes h = record { kind = kind; stored = bytes; sent = []; next = record { state = at_pc h (next_pc h); end = Live } }
+stores kind bytes h =
+    record { kind = kind; stored = bytes; sent = []; next = record { state = at_pc h (next_pc h); end = Live } }
 
 -- the registers that a call of the kernel reads
 abbrev pub call_args : Hart → CallArgs
@@ -99,7 +101,12 @@ moved_out s _ = []
 -- what a call came to: the hart has ended, or goes on with the answer in a0
 abbrev pub called : State → Hart → KernelStep → Act
 called s h (Ended code) = record { kind = Ex; stored = []; sent = []; next = record { state = h; end = Exit code } }
-called s h (Went a0 kind) = record { kind = kind; stored = moved_in s kind; sent = moved_out s kind; next = record { state = after h 10 a0 (next_pc h); end = Live } }
+called s h (Went a0 kind) = record {
+  kind = kind;
+  stored = moved_in s kind;
+  sent = moved_out s kind;
+  next = record { state = after h 10 a0 (next_pc h); end = Live };
+}
 
 pub record IsCalled (s : State) (h : Hart) (act : Act) : Type 0 where
   pub step : KernelStep
@@ -116,10 +123,13 @@ pub record IsPlainAct (instr : Instr) (next : Hart) (act : Act) : Type 0 where
 abbrev pub IsDone : State → Hart → Effect → Act → Type 0
 IsDone s h (effects.Plain instr next) act = IsPlainAct instr next act
 IsDone s h (effects.Load (instrs.Load width rd rs1 imm) addr) act =
-    (CanLoad s addr (load_bytes width) × (act ≡ goes_on (Ld width rd rs1 addr) (loaded h (instrs.Load width rd rs1 imm) (number_at s.bytes addr (load_bytes width)))))
+    (CanLoad s addr (load_bytes width)
+    × (act ≡ goes_on (Ld width rd rs1 addr)
+    (loaded h (instrs.Load width rd rs1 imm) (number_at s.bytes addr (load_bytes width)))))
     ⊎ IsFault (LoadFaults s addr (load_bytes width)) h addr act
 IsDone s h (effects.Store (instrs.Store width rs2 rs1 imm) addr value) act =
-    (CanStore s addr (store_bytes width) × (act ≡ stores (St width rs2 rs1 addr) (take (store_bytes width) (to_le_bytes w32 value)) h))
+    (CanStore s addr (store_bytes width)
+    × (act ≡ stores (St width rs2 rs1 addr) (take (store_bytes width) (to_le_bytes w32 value)) h))
     ⊎ IsFault (StoreFaults s addr (store_bytes width)) h addr act
 IsDone s h effects.Call act = IsCalled s h act
 IsDone s h effects.Illegal act = act ≡ faulted h Illegal h.pc

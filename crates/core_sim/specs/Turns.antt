@@ -39,7 +39,8 @@ items_left items (latest ∷ past) = behind_item latest (items_left items past)
 -- the turns after the list: those for whose hart no item was left
 abbrev pub behind_list : List Item → List ℕ → List ℕ
 behind_list items [] = []
-behind_list items (latest ∷ past) = if list_any (λ item. item.hart == latest) (items_left items past) then [] else latest ∷ behind_list items past
+behind_list items (latest ∷ past) =
+    if list_any (λ item. item.hart == latest) (items_left items past) then [] else latest ∷ behind_list items past
 
 -- the first item that is left of a live hart
 abbrev pub next_item : List Item → List ℕ → List ℕ → Option Item
@@ -70,7 +71,8 @@ harts_of turns = map (λ turn. turn.hart) turns
 
 -- the turns, the one with which the next step is taken first
 abbrev pub with_current : Schedule → List Turned → List ℕ → List Turned
-with_current schedule turns live = if goes_on turns live then turns else next_begun schedule (harts_of turns) live ∷ turns
+with_current schedule turns live =
+    if goes_on turns live then turns else next_begun schedule (harts_of turns) live ∷ turns
 
 -- the turns after one more step of the latest one
 abbrev pub one_more : List Turned → List Turned

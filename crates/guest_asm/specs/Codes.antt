@@ -29,22 +29,26 @@ unfoldable pub branch_named : List ℕ → Option BranchOp
 branch_named name = find (λ o. bytes_eq name (row (branch o)).mnemonic) (Beq ∷ Bne ∷ Blt ∷ Bge ∷ Bltu ∷ Bgeu ∷ [])
 
 unfoldable pub load_named : List ℕ → Option LoadWidth
-load_named name = find (λ o. bytes_eq name (row (load o)).mnemonic) (loads.B ∷ loads.H ∷ loads.W ∷ loads.Bu ∷ loads.Hu ∷ [])
+load_named name =
+    find (λ o. bytes_eq name (row (load o)).mnemonic) (loads.B ∷ loads.H ∷ loads.W ∷ loads.Bu ∷ loads.Hu ∷ [])
 
 unfoldable pub store_named : List ℕ → Option StoreWidth
 store_named name = find (λ o. bytes_eq name (row (store o)).mnemonic) (stores.B ∷ stores.H ∷ stores.W ∷ [])
 
 unfoldable pub immediate_named : List ℕ → Option ImmOp
-immediate_named name = find (λ o. bytes_eq name (row (op_imm o)).mnemonic) (Addi ∷ Slti ∷ Sltiu ∷ Xori ∷ Ori ∷ Andi ∷ [])
+immediate_named name =
+    find (λ o. bytes_eq name (row (op_imm o)).mnemonic) (Addi ∷ Slti ∷ Sltiu ∷ Xori ∷ Ori ∷ Andi ∷ [])
 
 unfoldable pub shift_named : List ℕ → Option ImmOp
 shift_named name = find (λ o. bytes_eq name (row (op_imm o)).mnemonic) (Slli ∷ Srli ∷ Srai ∷ [])
 
 unfoldable pub base_named : List ℕ → Option RegOp
-base_named name = find (λ o. bytes_eq name (row (op o)).mnemonic) (Add ∷ Sll ∷ Slt ∷ Sltu ∷ Xor ∷ Srl ∷ Or ∷ And ∷ Sub ∷ Sra ∷ [])
+base_named name =
+    find (λ o. bytes_eq name (row (op o)).mnemonic) (Add ∷ Sll ∷ Slt ∷ Sltu ∷ Xor ∷ Srl ∷ Or ∷ And ∷ Sub ∷ Sra ∷ [])
 
 unfoldable pub multiply_named : List ℕ → Option RegOp
-multiply_named name = find (λ o. bytes_eq name (row (op o)).mnemonic) (Mul ∷ Mulh ∷ Mulhsu ∷ Mulhu ∷ Div ∷ Divu ∷ Rem ∷ Remu ∷ [])
+multiply_named name =
+    find (λ o. bytes_eq name (row (op o)).mnemonic) (Mul ∷ Mulh ∷ Mulhsu ∷ Mulhu ∷ Div ∷ Divu ∷ Rem ∷ Remu ∷ [])
 
 -- an instruction with the label that it names, if it names one
 abbrev pub Coded : Type 0
@@ -160,7 +164,9 @@ jalr_code _ = None
 
 -- a number up to 12 bits by addi alone, and else by lui and addi
 unfoldable pub constant : ℕ → Number → Code
-constant rd n = unwrap_or (option_map (λ imm. code.One (instr.OpImm Addi rd 0 imm)) (immediate_of n)) (code.Two (lui_of rd n.bits) (addi_of rd n.bits))
+constant rd n =
+    unwrap_or (option_map (λ imm. code.One (instr.OpImm Addi rd 0 imm)) (immediate_of n))
+    (code.Two (lui_of rd n.bits) (addi_of rd n.bits))
 
 unfoldable pub li_code : List (List ℕ) → Option Coded
 li_code (a ∷ n ∷ []) = do

@@ -30,7 +30,8 @@ rank cause.Far = 9
 -- a line breaks the rule of a cause after these lines; one that means nothing is out of form
 abbrev pub Breaks : List Meaning → Option Meaning → JobCause → Type 0
 Breaks before None c = c ≡ cause.Form
-Breaks before (Some m) c = breaks (statements_of before) (place_of before) (is_again (labels_of before) m.label) m c ≡ true
+Breaks before (Some m) c =
+    breaks (statements_of before) (place_of before) (is_again (labels_of before) m.label) m c ≡ true
 
 -- the line of this number, counted from 1, breaks the rule of the cause after the lines before it, which mean something
 pub record LineBreaks (bytes : List ℕ) (line : ℕ) (c : JobCause) : Type 0 where

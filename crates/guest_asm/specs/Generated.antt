@@ -84,11 +84,14 @@ instructions_of Xor k = instr.Op registers.Xor t2 t0 t1 ∷ []
 
 -- an action, counted from 0, of those that are drawn from a state on: one draw says which action, the next its number
 abbrev pub action_at : ℕ → ℕ → List Instr
-action_at x i = instructions_of (action_numbered (choice 8 (drawn_after x (2 * i + 1)))) (choice 64 (drawn_after x (2 * i + 2)))
+action_at x i =
+    instructions_of (action_numbered (choice 8 (drawn_after x (2 * i + 1)))) (choice 64 (drawn_after x (2 * i + 2)))
 
 -- the address of data into s0, and that of a new block of 64 bytes into s1
 abbrev pub setup : List Instr
-setup = lui_of s0 DATA_START ∷ addi_of s0 DATA_START ∷ set_to a7 (pos 2) ∷ set_to a0 (pos 64) ∷ instr.Ecall ∷ add_to s1 a0 (pos 0) ∷ []
+setup =
+    lui_of s0 DATA_START ∷ addi_of s0 DATA_START ∷ set_to a7 (pos 2) ∷ set_to a0 (pos 64) ∷ instr.Ecall
+    ∷ add_to s1 a0 (pos 0) ∷ []
 
 -- the hart ends
 abbrev pub finish : List Instr

@@ -64,7 +64,8 @@ abbrev pub first_pass : List Meaning → List (List ℕ) → Result (List Meanin
 first_pass before [] = behind before (complete before)
 first_pass before (text ∷ texts) = behind before (judged before text) >>= λ m. first_pass (before ++ m ∷ []) texts
 
--- a statement with its line, the address of the next word of the text, the section in force, and the label that it names
+-- a statement with its line, the address of the next word of the text, the section in
+-- force, and the label that it names
 pub record Placed : Type 0 where
   pub line : ℕ
   pub at : ℕ
@@ -74,11 +75,18 @@ pub record Placed : Type 0 where
 
 -- the same without where the label lies in memory
 abbrev pub placed : Row → Placed
-placed r = record { line = r.line; at = r.at; section = r.section; statement = r.statement; named = option_copied r.named }
+placed r = record {
+  line = r.line;
+  at = r.at;
+  section = r.section;
+  statement = r.statement;
+  named = option_copied r.named;
+}
 
 abbrev pub row_with : ℕ → Place → Option (List ℕ) → Option Statement → List Placed
 row_with line place named None = []
-row_with line place named (Some s) = record { line = line; at = text_address place; section = place.section; statement = s; named = named } ∷ []
+row_with line place named (Some s) =
+    record { line = line; at = text_address place; section = place.section; statement = s; named = named } ∷ []
 
 -- the statements of lines in their places
 abbrev pub rows_from : ℕ → Place → List Meaning → List Placed
@@ -96,7 +104,8 @@ abbrev pub instructions : ℕ → ℕ → Code → Option (Instr × Option Instr
 instructions at to (code.One i) = Some (i, None)
 instructions at to (code.Two i j) = Some (i, Some j)
 instructions at to (code.Jump rd) = option_map (λ off. (instr.Jal rd off, None)) (offset (2 ^ 20) at to)
-instructions at to (code.Branch o rs1 rs2) = option_map (λ off. (instr.Branch o rs1 rs2 off, None)) (offset (2 ^ 12) at to)
+instructions at to (code.Branch o rs1 rs2) =
+    option_map (λ off. (instr.Branch o rs1 rs2 off, None)) (offset (2 ^ 12) at to)
 instructions at to (code.Address rd) = Some (lui_of rd to, Some (addi_of rd to))
 
 -- a word of the text: as it was written, or the word of an instruction
@@ -144,7 +153,8 @@ on_line line (Err c) = Err (fault_at line c)
 abbrev pub second_pass : List (List ℕ × ℕ) → List Placed → Result (List Cell) JobFault
 second_pass labels [] = Ok []
 second_pass labels (r ∷ rows) =
-    on_line r.line (row_cells r (target labels r.named)) >>= λ cells. second_pass labels rows >>= λ more. Ok (cells ++ more)
+    on_line r.line (row_cells r (target labels r.named)) >>= λ cells. second_pass labels rows >>= λ more.
+    Ok (cells ++ more)
 
 -- what a statement puts into data
 abbrev pub data_of : Placed → List ℕ
@@ -195,7 +205,8 @@ entries_of labels rows = fold (entry_after labels) (replicate MAX_HARTS TEXT_STA
 
 -- what the lines of a text without a fault mean, or its first fault
 abbrev pub passes : List ℕ → Result (List Meaning) JobFault
-passes bytes = first_pass [] (lines_of bytes) >>= λ lines. second_pass (labels_of lines) (rows_of lines) >>= λ cells. Ok lines
+passes bytes =
+    first_pass [] (lines_of bytes) >>= λ lines. second_pass (labels_of lines) (rows_of lines) >>= λ cells. Ok lines
 
 -- the text of rows that have no fault
 pub record IsTextOf (labels : List (List ℕ × ℕ)) (rows : List Placed) (words : List ℕ) : Type 0 where
@@ -204,7 +215,8 @@ pub record IsTextOf (labels : List (List ℕ × ℕ)) (rows : List Placed) (word
   pub are_cells : AreCells cells words
 
 -- the job of rows and their statements
-pub record IsJobOfRows (labels : List (List ℕ × ℕ)) (rows : List Placed) (statements : List Statement) (job : Job) : Type 0 where
+pub record IsJobOfRows (labels : List (List ℕ × ℕ)) (rows : List Placed) (statements : List Statement) (job : Job) :
+    Type 0 where
   pub harts : job.harts ≡ harts_in statements
   pub schedule : Some job.schedule ≡ first_of schedule_in statements
   pub steps : Some job.steps ≡ first_of steps_in statements

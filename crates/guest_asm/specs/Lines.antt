@@ -31,7 +31,8 @@ stated said = record { label = None; statement = Some said.0; named = said.1 }
 -- a name and its operands
 abbrev pub said_by : List ℕ → Option Meaning
 said_by [] = Some empty_line
-said_by (b ∷ bs) = option_map stated (statement_of (before_first is_blank (b ∷ bs)) (parts_of (after_first is_blank (b ∷ bs))))
+said_by (b ∷ bs) =
+    option_map stated (statement_of (before_first is_blank (b ∷ bs)) (parts_of (after_first is_blank (b ∷ bs))))
 
 unfoldable pub unlabelled : List ℕ → Option Meaning
 unlabelled code = said_by (skip_blanks code)
@@ -41,10 +42,13 @@ with_label label m = record m { label = Some label }
 
 -- a label, a colon, and the rest
 unfoldable pub labelled : List ℕ → Option Meaning
-labelled code = option_and_then (λ label. option_map (with_label label) (unlabelled (after_first is_colon code))) (label_of (before_first is_colon code))
+labelled code =
+    option_and_then (λ label. option_map (with_label label) (unlabelled (after_first is_colon code)))
+    (label_of (before_first is_colon code))
 
 -- what a line means, where it is in the grammar; a comment runs from `#` to its end
 unfoldable pub line_of : List ℕ → Option Meaning
 line_of text =
     if not (list_all is_legal text) then None
-    else (let code = skip_blanks (before_first is_hash text) in if list_any is_colon code then labelled code else unlabelled code)
+    else (let code = skip_blanks (before_first is_hash text) in
+    if list_any is_colon code then labelled code else unlabelled code)

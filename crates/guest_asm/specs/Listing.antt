@@ -13,7 +13,15 @@ hex n = digits 16 false n
 -- a word in hex digits, with zeros before them up to eight
 abbrev pub eight_digits : ℕ → List ℕ
 eight_digits n =
-    padded_integral (record { fill = 32; align = 0; plus = false; alternate = false; zero = true; width = 8; precision = 2 ^ 64 - 1 }) false [] (hex n)
+    padded_integral (record {
+      fill = 32;
+      align = 0;
+      plus = false;
+      alternate = false;
+      zero = true;
+      width = 8;
+      precision = 2 ^ 64 - 1;
+    }) false [] (hex n)
 
 -- that is as many zeros as its digits are short of eight, and its digits
 abbrev pub zeros_and_digits : ℕ → List ℕ

@@ -41,7 +41,8 @@ negated n =
 unfoldable pub number_of : List ℕ → Option Number
 number_of text =
     if starts_with nat_eq text (codes "0x") then option_map plain (digits_of 16 (drop 2 text))
-    else (if starts_with nat_eq text (codes "-") then option_and_then negated (decimal_of (drop 1 text)) else option_map plain (decimal_of text))
+    else (if starts_with nat_eq text (codes "-") then option_and_then negated (decimal_of (drop 1 text))
+    else option_map plain (decimal_of text))
 
 -- the number that a part of the operands holds
 unfoldable pub number_in : List ℕ → Option Number

@@ -215,7 +215,8 @@ abbrev pub breaks : List Statement → Place → Bool → Meaning → JobCause �
 breaks before place again m cause.Harts = on_statement (breaks_harts before) m.statement
 breaks before place again m cause.Twice = again || on_statement (repeats before) m.statement
 breaks before place again m cause.Range = on_statement (is_out_of_range (harts_in before)) m.statement
-breaks before place again m cause.Section = has_stray_label place m || on_statement (is_misplaced place.section) m.statement
+breaks before place again m cause.Section =
+    has_stray_label place m || on_statement (is_misplaced place.section) m.statement
 breaks before place again m cause.Align = on_statement (is_misaligned place) m.statement
 breaks before place again m cause.Full = on_statement (overfills place) m.statement
 breaks before place again m cause.Form = false
@@ -225,7 +226,9 @@ breaks before place again m cause.Far = false
 
 -- the first rule that a line breaks, in the order in which they are tried
 unfoldable pub broken_at : List Statement → Place → Bool → Meaning → Option JobCause
-broken_at before place again m = find (breaks before place again m) (cause.Harts ∷ cause.Twice ∷ cause.Range ∷ cause.Section ∷ cause.Align ∷ cause.Full ∷ [])
+broken_at before place again m =
+    find (breaks before place again m)
+    (cause.Harts ∷ cause.Twice ∷ cause.Range ∷ cause.Section ∷ cause.Align ∷ cause.Full ∷ [])
 
 -- the first rule that a line breaks after the lines before it
 abbrev pub broken : List Meaning → Meaning → Option JobCause
@@ -233,4 +236,5 @@ broken before m = broken_at (statements_of before) (place_of before) (is_again (
 
 -- no `.harts`, `.schedule`, `.steps` or text word
 abbrev pub lacks : List Statement → ℕ → Bool
-lacks before words = length before == 0 || not (list_any is_schedule before) || not (list_any is_steps before) || words == 0
+lacks before words =
+    length before == 0 || not (list_any is_schedule before) || not (list_any is_steps before) || words == 0

@@ -55,7 +55,8 @@ round_robin text = option_map statement.Rr (number_in text)
 unfoldable pub seed : List ℕ → Option Statement
 seed text =
     let behind = skip_blanks text in
-    option_and_then (λ n. option_map (λ q. statement.Seed n q) (number_in (after_first is_blank behind))) (number_of (before_first is_blank behind))
+    option_and_then (λ n. option_map (λ q. statement.Seed n q) (number_in (after_first is_blank behind)))
+    (number_of (before_first is_blank behind))
 
 unfoldable pub list_schedule : List (List ℕ) → Option Statement
 list_schedule parts = option_map statement.List (all_some (map turn_in parts))
@@ -81,7 +82,8 @@ pair_at _ = None
 abbrev pub hex_pairs : List ℕ → Option (List ℕ)
 hex_pairs [] = Some []
 hex_pairs (a ∷ []) = None
-hex_pairs (a ∷ b ∷ rest) = option_and_then (λ byte. option_map (λ bytes. byte ∷ bytes) (hex_pairs rest)) (digits_of 16 (a ∷ b ∷ []))
+hex_pairs (a ∷ b ∷ rest) =
+    option_and_then (λ byte. option_map (λ bytes. byte ∷ bytes) (hex_pairs rest)) (digits_of 16 (a ∷ b ∷ []))
 
 -- the word of a single part
 unfoldable pub one_word : List (List ℕ) → Option (List ℕ)
@@ -90,7 +92,9 @@ one_word _ = None
 
 -- one word of at least two digits
 unfoldable pub input_of : List (List ℕ) → Option Statement
-input_of parts = option_and_then (λ word. if length word == 0 then None else option_map statement.Input (hex_pairs word)) (one_word parts)
+input_of parts =
+    option_and_then (λ word. if length word == 0 then None else option_map statement.Input (hex_pairs word))
+    (one_word parts)
 
 unfoldable pub number_of_one : List (List ℕ) → Option Number
 number_of_one (part ∷ []) = number_in part
@@ -127,4 +131,5 @@ statement_of name parts =
     if bytes_eq name (codes ".schedule") then named (schedule_of parts)
     else (if bytes_eq name (codes ".input") then named (input_of parts)
     else (if bytes_eq name (codes ".word") then named (option_map statement.Word (numbers_in parts))
-    else (if bytes_eq name (codes ".byte") then named (option_map statement.Byte (numbers_in parts)) else plain_statement name parts)))
+    else (if bytes_eq name (codes ".byte") then named (option_map statement.Byte (numbers_in parts))
+    else plain_statement name parts)))

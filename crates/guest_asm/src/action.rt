@@ -158,7 +158,8 @@ fn push_read(code: &mut Vec<Instr>, k: u32) -> Result<(), AllocError>
     Ok(())
 }
 
-/// The instructions of an action at the end of a hart's code, with a number that names the word of data or of the block.
+/// The instructions of an action at the end of a hart's code, with a number that names
+/// the word of data or of the block.
 pub fn push_action(code: &mut Vec<Instr>, action: Action, k: u32) -> Result<(), AllocError>
     requires { k < 64 }
     ensures { OnOk result (code.new.items ≡ code.old.items ++ instructions_of action k) }

@@ -23,7 +23,10 @@ pub data Call : Type 0 where
 
 -- the calls by their number in a7, from 1
 abbrev pub call_of : ℕ → Call
-call_of a7 = slice_index_or (unknown_call ∷ exit_call ∷ alloc_call ∷ free_call ∷ map_call ∷ unmap_call ∷ read_call ∷ write_call ∷ []) a7 unknown_call
+call_of a7 =
+    slice_index_or
+    (unknown_call ∷ exit_call ∷ alloc_call ∷ free_call ∷ map_call ∷ unmap_call ∷ read_call ∷ write_call ∷ []) a7
+    unknown_call
 
 -- a call that failed gives -1, and its event is that a0 is a constant
 abbrev pub failure : KernelStep
@@ -95,7 +98,8 @@ IsAnswer alloc_call s args step = GivesBlock s args.a0 step ⊎ (IsRefused (Live
 IsAnswer free_call s args step = step ≡ freed args.a0 (s.blocks args.a0)
 IsAnswer map_call s args step = ComesTo (CanMap s args.a0 args.a1) (Went 0 (Mp (args.a0 / PAGE_BYTES) args.a1)) step
 IsAnswer unmap_call s args step = ComesTo (CanUnmap s args.a0 args.a1) (Went 0 (Um (args.a0 / PAGE_BYTES) args.a1)) step
-IsAnswer read_call s args step = let count = min args.a2 (length s.input) in ComesTo (CanRead s args.a1 args.a2) (moved count (Rd args.a1 count)) step
+IsAnswer read_call s args step = let count = min args.a2 (length s.input) in
+    ComesTo (CanRead s args.a1 args.a2) (moved count (Rd args.a1 count)) step
 IsAnswer write_call s args step = ComesTo (CanWrite s args.a1 args.a2) (moved args.a2 (Wr args.a1 args.a2)) step
 IsAnswer unknown_call s args step = step ≡ failure
 

@@ -23,11 +23,25 @@ pub record State : Type 0 where
 
 -- what the guest has of a kernel
 abbrev pub state_of : KernelImage → State
-state_of kernel = record { bytes = bytes kernel.memory; mapped = mapped kernel.memory; texts = texts kernel.memory; blocks = asked kernel.heap; input = kernel.input; output = kernel.output }
+state_of kernel = record {
+  bytes = bytes kernel.memory;
+  mapped = mapped kernel.memory;
+  texts = texts kernel.memory;
+  blocks = asked kernel.heap;
+  input = kernel.input;
+  output = kernel.output;
+}
 
 -- at the start no block is live, and nothing has gone outside
 abbrev pub started : List (Option PageImage) → List ℕ → State
-started memory input = record { bytes = bytes memory; mapped = mapped memory; texts = texts memory; blocks = λ _. None; input = input; output = [] }
+started memory input = record {
+  bytes = bytes memory;
+  mapped = mapped memory;
+  texts = texts memory;
+  blocks = λ _. None;
+  input = input;
+  output = [];
+}
 
 -- so many bytes from there on
 abbrev pub bytes_from : (ℕ → Option ℕ) → ℕ → ℕ → List ℕ
@@ -39,8 +53,16 @@ bytes_from bytes at (suc count) = unwrap_or (bytes at) 0 ∷ bytes_from bytes (a
 abbrev pub changed_by : State → Kind → State
 changed_by s (Al addr len) = record s { blocks = changed s.blocks addr (Some len) }
 changed_by s (Fr addr len) = record s { blocks = changed s.blocks addr None }
-changed_by s (Mp page count) = record s { bytes = repaged s.bytes page count (Some 0); mapped = marked s.mapped page count true; texts = marked s.texts page count false }
-changed_by s (Um page count) = record s { bytes = repaged s.bytes page count None; mapped = marked s.mapped page count false; texts = marked s.texts page count false }
+changed_by s (Mp page count) = record s {
+  bytes = repaged s.bytes page count (Some 0);
+  mapped = marked s.mapped page count true;
+  texts = marked s.texts page count false;
+}
+changed_by s (Um page count) = record s {
+  bytes = repaged s.bytes page count None;
+  mapped = marked s.mapped page count false;
+  texts = marked s.texts page count false;
+}
 changed_by s (Rd addr len) = record s { bytes = written s.bytes addr (take len s.input); input = drop len s.input }
 changed_by s (Wr addr len) = record s { output = s.output ++ bytes_from s.bytes addr len }
 changed_by s _ = s

@@ -14,7 +14,8 @@ IsPage cells = 0 < length cells → length cells ≡ PAGE_BYTES
 
 -- each of these pages has its cells
 abbrev pub HasRoom : ℕ → ℕ → List (List ℕ) → Type 0
-HasRoom first count pages = (number : ℕ) → first ≤ number → number < first + count → length (page_of pages number) ≡ PAGE_BYTES
+HasRoom first count pages = (number : ℕ) → first ≤ number → number < first + count →
+    length (page_of pages number) ≡ PAGE_BYTES
 
 -- each page that an event maps has its cells
 abbrev pub HasRoomFor : Kind → List (List ℕ) → Type 0

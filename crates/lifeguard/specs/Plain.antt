@@ -171,12 +171,14 @@ rule rules at kind state = record {
 
 -- where an event stands behind those before it
 abbrev pub place_after : List Event → Event → EventPlace
-place_after before event = record { place = length before + 1; hart = event.hart; number = events_on event.hart before + 1 }
+place_after before event =
+    record { place = length before + 1; hart = event.hart; number = events_on event.hart before + 1 }
 
 -- further events, behind those before them
 abbrev pub plain_from : Rules → List Event → State → List Event → State
 plain_from rules before state [] = state
-plain_from rules before state (event ∷ events) = plain_from rules (before ++ event ∷ []) (rule rules (place_after before event) event.kind state) events
+plain_from rules before state (event ∷ events) =
+    plain_from rules (before ++ event ∷ []) (rule rules (place_after before event) event.kind state) events
 
 -- the plain result of a run: all events one by one, from the pages of its start
 abbrev pub plain_result : Rules → List PageRun → List Event → State

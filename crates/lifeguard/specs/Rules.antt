@@ -44,13 +44,16 @@ all_or_none a b = if (a == 0) && (b == 0) then 0 else 15
 
 -- the laws that every lifeguard keeps
 pub record KeepsLaws (rules : Rules) : Type 0 where
-  pub store_keeps_access : (nibble : ℕ) (bit : Bool) → nibble < 8 → rules.bad_access (rules.store_nibble nibble bit) ≡ rules.bad_access nibble
+  pub store_keeps_access : (nibble : ℕ) (bit : Bool) → nibble < 8 →
+      rules.bad_access (rules.store_nibble nibble bit) ≡ rules.bad_access nibble
   pub page_below : (kind : PageKind) → rules.page_state kind < 8
   pub store_below : (nibble : ℕ) (bit : Bool) → nibble < 8 → rules.store_nibble nibble bit < 8
   pub range_below : (kind : RangeKind) (nibble : ℕ) → nibble < 8 → rules.range_state kind nibble < 8
   pub checked_few : (kind : Kind) → length (rules.checked kind) ≤ 3
-  pub checked_below : (kind : Kind) → All (λ register. register < REGISTERS) (registers_of kind) → All (λ register. register < REGISTERS) (rules.checked kind)
-  pub addr_stores : rules.name ≡ name.Addr → (nibble : ℕ) (bit : Bool) → nibble < 8 → rules.store_nibble nibble bit ≡ nibble
+  pub checked_below : (kind : Kind) → All (λ register. register < REGISTERS) (registers_of kind) →
+      All (λ register. register < REGISTERS) (rules.checked kind)
+  pub addr_stores : rules.name ≡ name.Addr → (nibble : ℕ) (bit : Bool) → nibble < 8 →
+      rules.store_nibble nibble bit ≡ nibble
   pub addr_loads : rules.name ≡ name.Addr → (nibble : ℕ) → nibble < 8 → rules.load_bit nibble ≡ false
   pub taint_access : rules.name ≡ name.Taint → (nibble : ℕ) → nibble < 8 → rules.bad_access nibble ≡ false
   pub taint_value : rules.name ≡ name.Taint → (nibble : ℕ) → nibble < 8 → rules.bad_value nibble ≡ false

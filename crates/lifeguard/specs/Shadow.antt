@@ -56,7 +56,8 @@ pub record Begins (rules : Rules) (pages : List PageRun) (shadow : Shadow) : Typ
 pub record IsStep (rules : Rules) (event : Event) (old new : Shadow) : Type 0 where
   pub state : state_of new ≡ rule rules (next_place old event.hart) event.kind (state_of old)
   pub place : new.place ≡ old.place + 1
-  pub counts : (h : ℕ) → h < MAX_HARTS → slice_index new.counts h ≡ slice_index old.counts h + (if event.hart == h then 1 else 0)
+  pub counts : (h : ℕ) → h < MAX_HARTS →
+      slice_index new.counts h ≡ slice_index old.counts h + (if event.hart == h then 1 else 0)
 
 -- nothing that a monitor shows has changed
 pub record IsUnchanged (old new : Shadow) : Type 0 where

@@ -44,7 +44,8 @@ paged value first count bytes = replaced value (first * PAGE_BYTES) (count * PAG
 
 -- register 0 keeps its mask
 unfoldable pub with_mask : ℕ → ℕ → ℕ → Masks → Masks
-with_mask hart register mask masks h r = if (h == hart) && (r == register) && not (register == 0) then mask else masks h r
+with_mask hart register mask masks h r =
+    if (h == hart) && (r == register) && not (register == 0) then mask else masks h r
 
 abbrev pub nothing : Bytes
 nothing a = None

@@ -1,3 +1,4 @@
+//! The registers that a kernel call reads.
 ghost use Rattle.std.specs.Prelude.{◌≡◌, ◌≤◌, take};
 ghost use Rattle.lifeguard.specs.Calls.{call_registers as registers_of_call};
 

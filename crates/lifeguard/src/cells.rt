@@ -78,7 +78,8 @@ pub fn first_bad<L: Lifeguard>(
 ) -> Option<u32>
     requires { addr + len < 2 ^ 32 }
     ensures inside { IfSome result (λ bad. bad < addr + len) }
-    ensures first { result ≡ find (λ a. is_bad_nibble (L.rules guard) check (nibble_of_byte (bytes_of cells.now) a)) (span addr len) }
+    ensures first { result
+        ≡ find (λ a. is_bad_nibble (L.rules guard) check (nibble_of_byte (bytes_of cells.now) a)) (span addr len) }
 {
     for at in addr..addr + len {
         if is_bad(guard, check, nibble_at(cells, at)) {
@@ -124,7 +125,8 @@ fn ranged_cell<L: Lifeguard>(guard: L, kind: RangeKind, cell: u8) -> u8
 pub fn change_range<L: Lifeguard>(guard: L, kind: RangeKind, cells: &mut [u8], addr: u32, len: u32)
     requires inside { addr + len ≤ length cells.old }
     requires below { addr + len < 2 ^ 32 }
-    ensures { bytes_of cells.new ≡ changed (λ i old. (L.rules guard).range_state kind old) addr len (bytes_of cells.old) }
+    ensures { bytes_of cells.new
+        ≡ changed (λ i old. (L.rules guard).range_state kind old) addr len (bytes_of cells.old) }
 {
     for at in addr as usize..(addr + len) as usize {
         cells[at] = ranged_cell(guard, kind, cells[at]);

@@ -1,3 +1,4 @@
+//! What makes a lifeguard: the trait of its rules.
 ghost use Rattle.std.specs.Prelude.{◌≡◌, ◌<◌, ◌≤◌, ℕ, take, slice_index};
 ghost use Rattle.lifeguard.specs.Rules.{Rules, KeepsLaws};
 ghost use Rattle.lifeguard.specs.Plain.{load_bits, mask_from as mask_of_bits, bit_value as value_of_bit};
@@ -106,7 +107,9 @@ pub trait Lifeguard: Copy {
 #[inline]
 pub fn load_mask<L: Lifeguard>(l: &L, nibbles: [u8; 4], width: LoadWidth) -> u8
     requires { (i : ℕ) → i < 4 → slice_index nibbles i < 8 }
-    ensures value { result ≡ load_bits width ((L.rules l.now).load_bit (slice_index nibbles 0)) ((L.rules l.now).load_bit (slice_index nibbles 1))
+    ensures value { result
+        ≡ load_bits width ((L.rules l.now).load_bit (slice_index nibbles 0))
+        ((L.rules l.now).load_bit (slice_index nibbles 1))
         ((L.rules l.now).load_bit (slice_index nibbles 2)) ((L.rules l.now).load_bit (slice_index nibbles 3)) }
     ensures small { result < 16 }
 {

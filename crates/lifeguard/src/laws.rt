@@ -11,12 +11,14 @@ ghost use Rattle.lifeguard.specs.Plain.{rule, reports_of, plain_result};
 
 /// An event makes at most three reports.
 pub fn few_reports()
-    ensures { (rules : Rules) (at : EventPlace) (kind : Kind) (state : State) → length (reports_of rules at kind state) ≤ 3 }
+    ensures { (rules : Rules) (at : EventPlace) (kind : Kind) (state : State) →
+        length (reports_of rules at kind state) ≤ 3 }
 {}
 
 /// After any events nibbles are below 8 and masks below 16.
 pub fn values_in_range()
-    ensures { (rules : Rules) → KeepsLaws rules → (pages : List PageRun) (events : List Event) → IsInRange (plain_result rules pages events) }
+    ensures { (rules : Rules) → KeepsLaws rules → (pages : List PageRun) (events : List Event) →
+        IsInRange (plain_result rules pages events) }
 {}
 
 /// An event changes no mask of another hart, and adds no report of another hart.

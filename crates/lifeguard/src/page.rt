@@ -64,7 +64,8 @@ impl Page {
     /// Changes the nibbles of a range that is taken, given back or read from outside.
     pub fn change<L: Lifeguard>(&mut self, guard: L, kind: RangeKind, at: u32, len: u32)
         requires inside { at + len ≤ PAGE_BYTES }
-        ensures { bytes_of self.new ≡ changed (λ i old. (L.rules guard).range_state kind old) at len (bytes_of self.old) }
+        ensures { bytes_of self.new
+            ≡ changed (λ i old. (L.rules guard).range_state kind old) at len (bytes_of self.old) }
     {
         if !self.cells.is_empty() {
             change_range(guard, kind, &mut self.cells, at, len);

@@ -65,7 +65,8 @@ pub fn first_bad_in<L: Lifeguard>(
 ) -> Option<u32>
     requires inside { addr + len ≤ PAGE_BYTES * length pages.now }
     requires below { addr + len < 2 ^ 32 }
-    ensures { result ≡ find (λ a. is_bad_nibble (L.rules guard) check (nibble_of_byte (bytes_in pages.now) a)) (span addr len) }
+    ensures { result
+        ≡ find (λ a. is_bad_nibble (L.rules guard) check (nibble_of_byte (bytes_in pages.now) a)) (span addr len) }
 {
     for at in addr..addr + len {
         if is_bad(guard, check, nibble_in(pages, at)) {
@@ -86,7 +87,8 @@ pub fn first_bad_on_page<L: Lifeguard>(
 ) -> Option<u32>
     requires inside { addr < PAGE_BYTES * length pages.now }
     requires within { addr % PAGE_BYTES + len ≤ PAGE_BYTES }
-    ensures { result ≡ find (λ a. is_bad_nibble (L.rules guard) check (nibble_of_byte (bytes_in pages.now) a)) (span addr len) }
+    ensures { result
+        ≡ find (λ a. is_bad_nibble (L.rules guard) check (nibble_of_byte (bytes_in pages.now) a)) (span addr len) }
 {
     let place = addr % PAGE_BYTES;
     let cells = pages[(addr / PAGE_BYTES) as usize].cells();
@@ -129,7 +131,8 @@ pub fn store_on_page<L: Lifeguard>(guard: L, mask: u8, pages: &mut [Page], addr:
 fn change_on_page<L: Lifeguard>(guard: L, kind: RangeKind, pages: &mut [Page], addr: u32, len: u32)
     requires inside { addr < PAGE_BYTES * length pages.old }
     requires within { addr % PAGE_BYTES + len ≤ PAGE_BYTES }
-    ensures { bytes_in pages.new ≡ changed (λ i old. (L.rules guard).range_state kind old) addr len (bytes_in pages.old) }
+    ensures { bytes_in pages.new
+        ≡ changed (λ i old. (L.rules guard).range_state kind old) addr len (bytes_in pages.old) }
 {
     let number = (addr / PAGE_BYTES) as usize;
     pages[number].change(guard, kind, addr % PAGE_BYTES, len);
@@ -145,7 +148,8 @@ pub fn change_range_in<L: Lifeguard>(
 )
     requires inside { addr + len ≤ PAGE_BYTES * length pages.old }
     requires below { addr + len < 2 ^ 31 }
-    ensures { bytes_in pages.new ≡ changed (λ i old. (L.rules guard).range_state kind old) addr len (bytes_in pages.old) }
+    ensures { bytes_in pages.new
+        ≡ changed (λ i old. (L.rules guard).range_state kind old) addr len (bytes_in pages.old) }
 {
     let mut done = 0;
     while done < len {
@@ -206,7 +210,9 @@ pub fn map_runs<L: Lifeguard>(
 ) -> Result<(), NoMemory>
     requires whole { length pages.old ≡ PAGE_COUNT }
     requires inside { All (λ run. run.first + run.count ≤ PAGE_COUNT) runs.now }
-    ensures { OnOk result (bytes_in pages.new ≡ fold (λ bytes run. paged (Some ((L.rules guard).page_state run.kind)) run.first run.count bytes) (bytes_in pages.old) runs.now) }
+    ensures { OnOk result (bytes_in pages.new
+        ≡ fold (λ bytes run. paged (Some ((L.rules guard).page_state run.kind)) run.first run.count bytes)
+        (bytes_in pages.old) runs.now) }
 {
     for run in runs {
         make_room(pages, run.first, run.count)?;

@@ -1,3 +1,4 @@
+//! The plain monitor: the rules over all events, one by one.
 ghost use Rattle.std.specs.Prelude.{◌≡◌, ℕ, ◌<◌, ◌≤◌, ◌+◌, ◌*◌, ◌++◌, ◌∷◌, [], List, All, IfOk, OnOk, OnErr};
 ghost use Rattle.pl_base.specs.declared.layout.TheConstants.{PAGE_BYTES, PAGE_COUNT, REGISTERS, MAX_RECORDS};
 ghost use Rattle.pl_event.specs.Valid.{IsValidEvent};
@@ -66,7 +67,8 @@ impl<L: Lifeguard> PlainMonitor<L> {
     pub fn apply(&mut self, event: &Event) -> Result<(), NoMemory>
         requires valid { IsValidEvent event.now self.old.harts }
         requires room { place_of self.old.shadow < MAX_RECORDS }
-        ensures stands { OnOk result ((pages : List PageRun) (events : List Event) → Represents (L.rules self.old.guard) pages events self.old.shadow
+        ensures stands { OnOk result ((pages : List PageRun) (events : List Event) →
+            Represents (L.rules self.old.guard) pages events self.old.shadow
             → Represents (L.rules self.old.guard) pages (events ++ event.now ∷ []) self.new.shadow) }
         ensures place { OnOk result (place_of self.new.shadow ≡ place_of self.old.shadow + 1) }
         ensures err { OnErr result (IsUnchanged self.old.shadow self.new.shadow) }
@@ -98,7 +100,8 @@ impl<L: Lifeguard> PlainMonitor<L> {
     #[inline]
     pub fn page(&self, page: u16) -> &[u8]
         requires { page < PAGE_COUNT }
-        ensures bytes { (a : ℕ) → a < PAGE_BYTES → bytes_of result.now a ≡ (state_of self.now.shadow).bytes (page * PAGE_BYTES + a) }
+        ensures bytes { (a : ℕ) → a < PAGE_BYTES →
+            bytes_of result.now a ≡ (state_of self.now.shadow).bytes (page * PAGE_BYTES + a) }
         ensures page { IsPage result.now }
     {
         self.shadow.page(page)

@@ -198,7 +198,8 @@ fn push_reports<L: Lifeguard>(
     requires hart { at.hart < MAX_HARTS }
     requires whole { length pages.now ≡ PAGE_COUNT }
     requires valid { HasValidFields kind.now }
-    ensures ok { OnOk result (reports.new.items ≡ reports.old.items ++ reports_of (L.rules guard) at kind.now (state_from pages.now masks.now [])) }
+    ensures ok { OnOk result (reports.new.items
+        ≡ reports.old.items ++ reports_of (L.rules guard) at kind.now (state_from pages.now masks.now [])) }
     ensures err { OnErr result (take (length reports.old.items) reports.new.items ≡ reports.old.items) }
 {
     let register = marked_register(guard, masks, at.hart, kind);
@@ -223,7 +224,8 @@ pub fn report_event<L: Lifeguard>(
     requires hart { at.hart < MAX_HARTS }
     requires whole { length pages.now ≡ PAGE_COUNT }
     requires valid { HasValidFields kind.now }
-    ensures ok { OnOk result (reports.new.items ≡ reports.old.items ++ reports_of (L.rules guard) at kind.now (state_from pages.now masks.now [])) }
+    ensures ok { OnOk result (reports.new.items
+        ≡ reports.old.items ++ reports_of (L.rules guard) at kind.now (state_from pages.now masks.now [])) }
     ensures err { OnErr result (reports.new.items ≡ reports.old.items) }
 {
     let before = reports.len();

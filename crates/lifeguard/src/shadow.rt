@@ -1,3 +1,4 @@
+//! The shadow state of a run.
 ghost use Rattle.std.specs.Prelude.{◌≡◌, ◌<◌, ◌≤◌, ◌+◌, ◌*◌, ℕ, [], All, OnOk, OnErr, IfOk, vec_len, slice_index};
 ghost use Rattle.pl_base.specs.declared.layout.TheConstants.{PAGE_BYTES, PAGE_COUNT, MAX_HARTS, REGISTERS, MAX_RECORDS};
 
@@ -95,7 +96,8 @@ impl Shadow {
     #[inline]
     pub fn page(&self, page: u16) -> &[u8]
         requires { page < PAGE_COUNT }
-        ensures bytes { (a : ℕ) → a < PAGE_BYTES → bytes_of result.now a ≡ (state_of self.now).bytes (page * PAGE_BYTES + a) }
+        ensures bytes { (a : ℕ) → a < PAGE_BYTES →
+            bytes_of result.now a ≡ (state_of self.now).bytes (page * PAGE_BYTES + a) }
         ensures page { IsPage result.now }
     {
         self.pages[page as usize].cells()

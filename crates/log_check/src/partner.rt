@@ -37,7 +37,8 @@ impl Later {
         ensures no { (harts : ℕ) (lines : List Line) (x at m : ℕ) →
             IsLater harts lines at self.now.event m (time self.now.clock) →
             IsPair lines x at event.now number self.now.event m →
-            result ≡ false → ShareBlock (access_of self.now.size event.now.kind) (access_of self.now.size self.now.event.kind) →
+            result ≡ false →
+            ShareBlock (access_of self.now.size event.now.kind) (access_of self.now.size self.now.event.kind) →
             Path (Into lines) event.now.hart number self.now.event.hart m }
     {
         number > self.clock.get(event.hart) && share_block(self.size, &event.kind, &self.event.kind)

@@ -173,8 +173,8 @@ impl Clocks {
         clock
     }
 
-    /// Takes the next record, of this hart, which needs no record of another hart, and gives its clock. Without memory the
-    /// clocks stay as they were.
+    /// Takes the next record, of this hart, which needs no record of another hart, and gives its clock.
+    /// Without memory the clocks stay as they were.
     #[inline(always)]
     pub fn next_alone(&mut self, hart: u8) -> Result<Clock, NoMemory>
         requires hart { hart < 8 }

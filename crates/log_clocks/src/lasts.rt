@@ -197,7 +197,8 @@ impl LastAccesses {
         ensures own { IsIndexed self.old.index.items self.old.rows.items → IfOk result (λ slot.
             IsIndexed self.new.index.items self.new.rows.items × (slice_index self.new.index.items block ≡ slot)
             × (1 ≤ slot)
-            × ((b : ℕ) → row_at self.new.index.items self.new.rows.items b ≡ row_at self.old.index.items self.old.rows.items b)) }
+            × ((b : ℕ) → row_at self.new.index.items self.new.rows.items b
+            ≡ row_at self.old.index.items self.old.rows.items b)) }
         ensures err { OnErr result (HasSameTable self.old self.new) }
     {
         let slot = self.slot(block);

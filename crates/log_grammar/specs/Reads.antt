@@ -23,9 +23,11 @@ Closes [] = ⊥
 Closes (byte ∷ rest) = byte < 48
 
 -- the words that are given stand at the front, and where the words of a value in range stand, it is given
-pub record Reads {X : Type 0} (InRange : X → Type 0) (words : X → List (List ℕ)) (text : List ℕ) (result : Option (X × Bor (List ℕ))) : Type 0 where
+pub record Reads {X : Type 0} (InRange : X → Type 0) (words : X → List (List ℕ)) (text : List ℕ)
+    (result : Option (X × Bor (List ℕ))) : Type 0 where
   pub found : IfSome result (λ r. InRange r.0 × (text ≡ behind_blanks (words r.0) r.1.now))
-  pub every : (x : X) (rest : List ℕ) → InRange x → Closes rest → text ≡ behind_blanks (words x) rest → IsSomeAnd result (λ r. (r.0 ≡ x) × (r.1.now ≡ rest))
+  pub every : (x : X) (rest : List ℕ) → InRange x → Closes rest → text ≡ behind_blanks (words x) rest →
+      IsSomeAnd result (λ r. (r.0 ≡ x) × (r.1.now ≡ rest))
 
 -- one word, the number in base 10
 abbrev pub number_word : ℕ → List (List ℕ)
@@ -79,7 +81,8 @@ behind_commas (point ∷ points) rest = 44 ∷ point_word point ++ behind_commas
 -- the bytes begin with a point in form, and with no other where no digit carries it on
 pub record ReadsPoint (text : List ℕ) (result : Option (Point × Bor (List ℕ))) : Type 0 where
   pub found : IfSome result (λ r. IsPointInForm most_read r.0 × (text ≡ point_word r.0 ++ r.1.now))
-  pub every : (point : Point) (rest : List ℕ) → IsPointInForm most_read point → Closes rest → text ≡ point_word point ++ rest → IsSomeAnd result (λ r. (r.0 ≡ point) × (r.1.now ≡ rest))
+  pub every : (point : Point) (rest : List ℕ) → IsPointInForm most_read point → Closes rest →
+      text ≡ point_word point ++ rest → IsSomeAnd result (λ r. (r.0 ≡ point) × (r.1.now ≡ rest))
 
 -- the bytes are a comma away from these points in form, and from no others that a line feed ends
 pub record IsArcList (text : List ℕ) (list : ArcList) (rest : List ℕ) : Type 0 where
@@ -88,9 +91,11 @@ pub record IsArcList (text : List ℕ) (list : ArcList) (rest : List ℕ) : Type
   pub in_form : ArePointsInForm most_read points
   pub sums : Sums list points
   pub spelled : 44 ∷ text ≡ behind_commas points rest
-  pub only : (others : List Point) (after : List ℕ) → ArePointsInForm most_read others → 44 ∷ text ≡ behind_commas others (10 ∷ after) → (others ≡ points) × (rest ≡ 10 ∷ after)
+  pub only : (others : List Point) (after : List ℕ) → ArePointsInForm most_read others →
+      44 ∷ text ≡ behind_commas others (10 ∷ after) → (others ≡ points) × (rest ≡ 10 ∷ after)
 
 -- the text begins with a number of harts from 1 to 8, and with no other
 pub record ReadsHarts (text : List ℕ) (result : Option (ℕ × Bor (List ℕ))) : Type 0 where
   pub found : IfSome result (λ r. (1 ≤ r.0) × (r.0 ≤ 8) × (text ≡ decimal r.0 ++ r.1.now))
-  pub every : (harts : ℕ) (rest : List ℕ) → 1 ≤ harts → harts ≤ 8 → Closes rest → text ≡ decimal harts ++ rest → IsSomeAnd result (λ r. (r.0 ≡ harts) × (r.1.now ≡ rest))
+  pub every : (harts : ℕ) (rest : List ℕ) → 1 ≤ harts → harts ≤ 8 → Closes rest → text ≡ decimal harts ++ rest →
+      IsSomeAnd result (λ r. (r.0 ≡ harts) × (r.1.now ≡ rest))

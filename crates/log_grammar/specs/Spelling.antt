@@ -96,7 +96,8 @@ abbrev pub version_of : ℕ → ℕ
 version_of block = if block == 16 then 1 else 2
 
 abbrev pub header_text : ℕ → ℕ → List ℕ
-header_text harts block = codes "PLOG " ++ decimal (version_of block) ++ codes " harts " ++ decimal harts ++ codes " block " ++ decimal block
+header_text harts block =
+    codes "PLOG " ++ decimal (version_of block) ++ codes " harts " ++ decimal harts ++ codes " block " ++ decimal block
 
 -- each line ends with a line feed
 abbrev pub line_text : List ℕ → List ℕ

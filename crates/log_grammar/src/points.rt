@@ -1,3 +1,4 @@
+//! The arcs of a line, gathered as they are read.
 ghost use Rattle.std.specs.Prelude.{◌≡◌, ◌++◌, ◌∷◌, [], ◌≤◌};
 ghost use Rattle.log_grammar.specs.Arcs.{arc_of as arc_of_number};
 

@@ -16,26 +16,32 @@ use Rattle.log_text.specs.declared.stream.LogStream.{LogStream}
 use Rattle.log_text.specs.Parts.{IsValidLine}
 use Rattle.log_text.specs.Reading.{IsReadBy, HasRead, IsNoLog, line_of, with_line}
 
--- R holds of the bytes of the source and of those of them that stand behind the lines that were read, whatever is to come
-pub record Streams (limit : ℕ) (began now : Option (List ℕ)) (window : Window) (R : List ℕ → List ℕ → Type 0) : Type 0 where
+-- R holds of the bytes of the source and of those of them that stand behind the lines
+-- that were read, whatever is to come
+pub record Streams (limit : ℕ) (began now : Option (List ℕ)) (window : Window) (R : List ℕ → List ℕ → Type 0) :
+    Type 0 where
   pub small : limit < 2 ^ 31
   pub taken : List ℕ
   pub consumed : Consumes began now taken
   pub counted : window.spare + length taken ≡ limit
   pub lines : window.ended ≡ false → ends_line window.front ≡ true
   pub ended : window.ended ≡ true → (window.begun ≡ []) × IsAtEnd now
-  pub reads : (later : List ℕ) → (window.ended ≡ true → later ≡ []) → R (taken ++ later) (window.front ++ (window.begun ++ later))
+  pub reads : (later : List ℕ) → (window.ended ≡ true → later ≡ []) →
+      R (taken ++ later) (window.front ++ (window.begun ++ later))
 
 -- the lines of the log were read from a source that had these bytes
 abbrev pub IsBegun : ℕ → Option (List ℕ) → Option (List ℕ) → LogStream → Log → Type 0
-IsBegun limit began now stream log = Streams limit began now stream.buffer (λ bytes rest. IsReadBy stream.reader bytes rest log)
+IsBegun limit began now stream log =
+    Streams limit began now stream.buffer (λ bytes rest. IsReadBy stream.reader bytes rest log)
 
 -- and all runs of pages
 abbrev pub IsStreamed : ℕ → Option (List ℕ) → Option (List ℕ) → LogStream → Log → Type 0
-IsStreamed limit began now stream log = Streams limit began now stream.buffer (λ bytes rest. HasRead stream.reader bytes rest log)
+IsStreamed limit began now stream log =
+    Streams limit began now stream.buffer (λ bytes rest. HasRead stream.reader bytes rest log)
 
 -- the log of the lines so far and that one
-pub record StreamsRow (limit : ℕ) (began now : Option (List ℕ)) (stream : LogStream) (log : Log) (row : Row) : Type 0 where
+pub record StreamsRow (limit : ℕ) (began now : Option (List ℕ)) (stream : LogStream) (log : Log) (row : Row) :
+    Type 0 where
   pub read : IsStreamed limit began now stream (with_line log (line_of stream.reader row))
   pub valid : IsValidLine log.harts (line_of stream.reader row)
   pub room : length log.lines < MAX_RECORDS

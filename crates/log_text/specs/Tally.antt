@@ -17,7 +17,8 @@ use Rattle.pl_event.specs.Runs.{ends_hart}
 abbrev pub tells : ℕ → Point → Entry → Bool
 tells hart point (page run) = false
 tells hart point (row (entry.Event event) points) = false
-tells hart point (row (entry.Notice own of) points) = (own == hart) && ((of.hart == point.hart) && (of.number == point.number))
+tells hart point (row (entry.Notice own of) points) =
+    (own == hart) && ((of.hart == point.hart) && (of.number == point.number))
 
 abbrev pub is_told : List Entry → ℕ → Point → Bool
 is_told before hart point = list_any (tells hart point) before
@@ -39,10 +40,13 @@ pub record Keeps (tally : Tally) (before : List Entry) : Type 0 where
   pub numbers : (hart : ℕ) → hart < 8 → slice_index_or tally.numbers hart 0 ≡ records_in hart before
   pub ended : (hart : ℕ) → hart < 8 → slice_index_or tally.ended hart false ≡ list_any (is_end_of hart) before
   -- each hart's last record is kept where it is a notice, and each notice whose event has not come is a last record
-  pub there : (hart : ℕ) (point : Point) → hart < 8 → slice_index_or tally.notices hart None ≡ Some point → is_told before hart point ≡ true
-  pub last : (hart : ℕ) (point : Point) → is_told before hart point ≡ true → records_in point.hart before < point.number → slice_index_or tally.notices hart None ≡ Some point
+  pub there : (hart : ℕ) (point : Point) → hart < 8 → slice_index_or tally.notices hart None ≡ Some point →
+      is_told before hart point ≡ true
+  pub last : (hart : ℕ) (point : Point) → is_told before hart point ≡ true →
+      records_in point.hart before < point.number → slice_index_or tally.notices hart None ≡ Some point
   pub low : (hart : ℕ) (point : Point) → is_told before hart point ≡ true → (hart < 8) × (point.hart < 8)
-  pub named : (hart number : ℕ) → hart < 8 → slice_index_or tally.named hart 0 < number → list_any (is_notice_of hart number) before ≡ false
+  pub named : (hart number : ℕ) → hart < 8 → slice_index_or tally.named hart 0 < number →
+      list_any (is_notice_of hart number) before ≡ false
 
 -- one more event: a hart that ends is marked, and so are pages; all else stays
 pub record AddsKind (old : Tally) (hart : ℕ) (kind : Kind) (new : Tally) : Type 0 where

@@ -106,7 +106,8 @@ is_awaited entries hart = list_any (is_notice_of hart (records_in hart entries +
 -- a page line follows a record, starts below the end of the run before it, passes the last page, or maps more than 512
 abbrev pub breaks_page : List Entry → PageRun → Bool
 breaks_page before run =
-    list_any is_row before || nat_lt run.first (page_end before) || nat_lt PAGE_COUNT (run.first + run.count) || nat_lt MAX_MAPPED_PAGES (pages_mapped before + run.count)
+    list_any is_row before || nat_lt run.first (page_end before) || nat_lt PAGE_COUNT (run.first + run.count) || nat_lt
+    MAX_MAPPED_PAGES (pages_mapped before + run.count)
 
 -- 2,000,000 records stand before
 abbrev pub breaks_records : List Entry → Bool
@@ -127,16 +128,19 @@ breaks_ended before what = not (is_notice what) && list_any (is_end_of (hart_of 
 -- an arc of the own hart, harts that do not rise strictly, or an arc from a record that has not come
 abbrev pub breaks_arc : List Entry → Record → List Point → Bool
 breaks_arc before what points =
-    list_any (λ point. point.hart == hart_of what) points || not (is_rising points) || list_any (λ point. nat_lt (records_in point.hart before) point.number) points
+    list_any (λ point. point.hart == hart_of what) points || not (is_rising points) || list_any
+    (λ point. nat_lt (records_in point.hart before) point.number) points
 
 -- a notice of the own hart or of a record that has come
 abbrev pub is_bad_notice : List Entry → Record → Bool
 is_bad_notice before (entry.Event event) = false
-is_bad_notice before (entry.Notice hart point) = (point.hart == hart) || nat_le point.number (records_in point.hart before)
+is_bad_notice before (entry.Notice hart point) =
+    (point.hart == hart) || nat_le point.number (records_in point.hart before)
 
 -- such a notice, or a record that a notice names and that is no alert event
 abbrev pub breaks_notice : List Entry → Record → Bool
-breaks_notice before what = is_bad_notice before what || (is_awaited before (hart_of what) && not (on_event is_alert_kind what))
+breaks_notice before what =
+    is_bad_notice before what || (is_awaited before (hart_of what) && not (on_event is_alert_kind what))
 
 -- a load's or a store's address is no multiple of its width
 abbrev pub is_misaligned : Kind → Bool
@@ -152,10 +156,14 @@ passes_end (Rd addr len) = nat_lt MEMORY_BYTES (addr + len)
 passes_end (Wr addr len) = nat_lt MEMORY_BYTES (addr + len)
 passes_end _ = false
 
--- pages past the last one, mapped pages that are mapped again, more than 512 of them, or unmapped ones that are unmapped
+-- pages past the last one, mapped pages that are mapped again, more than 512 of them, or
+-- unmapped ones that are unmapped
 abbrev pub is_bad_map : List Entry → Kind → Bool
-is_bad_map before (Mp first count) = nat_lt PAGE_COUNT (first + count) || some_page (mapped_in before) first count || nat_lt MAX_MAPPED_PAGES (pages_mapped before + count)
-is_bad_map before (Um first count) = nat_lt PAGE_COUNT (first + count) || some_page (λ page. not (mapped_in before page)) first count
+is_bad_map before (Mp first count) =
+    nat_lt PAGE_COUNT (first + count) || some_page (mapped_in before) first count
+    || nat_lt MAX_MAPPED_PAGES (pages_mapped before + count)
+is_bad_map before (Um first count) =
+    nat_lt PAGE_COUNT (first + count) || some_page (λ page. not (mapped_in before page)) first count
 is_bad_map before _ = false
 
 -- whether a line breaks the rule of a cause after the lines before it
@@ -202,7 +210,8 @@ pub record Continues (rules : List LogCause) (most harts : ℕ) (before : List E
 
 -- each line continues those before it
 abbrev pub IsLawful : List LogCause → ℕ → ℕ → List Entry → Type 0
-IsLawful rules most harts entries = (before after : List Entry) (e : Entry) → entries ≡ before ++ e ∷ after → Continues rules most harts before e
+IsLawful rules most harts entries = (before after : List Entry) (e : Entry) → entries ≡ before ++ e ∷ after →
+    Continues rules most harts before e
 
 -- 1 to 8 harts and a size of blocks, each line continues those before it, and the event of each notice comes
 pub record KeepsRules (rules : List LogCause) (most : ℕ) (log : Log) : Type 0 where
@@ -231,13 +240,17 @@ pub record IsLogText (bytes : List ℕ) (log : Log) : Type 0 where
 pub record IsHeaderFault (bytes : List ℕ) (fault : LogFault) : Type 0 where
   pub line : fault.line ≡ 1
   pub named : fault.cause ≡ Header
-  pub none : (harts block : ℕ) (rest : List ℕ) → 1 ≤ harts → harts ≤ 8 → IsBlockSize block → bytes ≡ line_text (header_text harts block) ++ rest → ⊥
+  pub none : (harts block : ℕ) (rest : List ℕ) → 1 ≤ harts → harts ≤ 8 → IsBlockSize block →
+      bytes ≡ line_text (header_text harts block) ++ rest → ⊥
 
--- why reading stops before the rest: no line in form begins it, the line that begins it breaks a rule, or it is the end and
--- the event of a notice has not come
+-- why reading stops before the rest: no line in form begins it, the line that begins it breaks a rule, or it is the
+-- end and the event of a notice has not come
 pub data Stops (harts : ℕ) (before : List Entry) (rest : List ℕ) : LogCause → Type 0 where
-  no_line : 0 < length rest → ((e : Entry) (after : List ℕ) → IsInForm most_read e → rest ≡ line_text (entry_text e) ++ after → ⊥) → Stops harts before rest Form
-  bad_line : {cause : LogCause} (e : Entry) (after : List ℕ) → IsInForm most_read e → rest ≡ line_text (entry_text e) ++ after → broken harts before e ≡ Some cause → Stops harts before rest cause
+  no_line : 0 < length rest →
+      ((e : Entry) (after : List ℕ) → IsInForm most_read e → rest ≡ line_text (entry_text e) ++ after → ⊥) →
+      Stops harts before rest Form
+  bad_line : {cause : LogCause} (e : Entry) (after : List ℕ) → IsInForm most_read e →
+      rest ≡ line_text (entry_text e) ++ after → broken harts before e ≡ Some cause → Stops harts before rest cause
   bad_end : rest ≡ [] → has_pending before ≡ true → Stops harts before rest Open
 
 -- the line behind a header and lawful lines

@@ -1,3 +1,4 @@
+//! Why a text is no log.
 use pl_base::NoMemory;
 use std::alloc::{AllocError, AllocFailed};
 

@@ -11,7 +11,8 @@ use log_grammar::{ArcList, header_at, page_at, row_at};
 /// Bytes have one first fault at most, and where they have one they are the text of no log. It looks at each line once,
 /// and takes no memory.
 pub fn one_fault(bytes: &[u8])
-    ensures one { (fault other : LogFault) → IsFirstFault bytes.now fault → IsFirstFault bytes.now other → fault ≡ other }
+    ensures one { (fault other : LogFault) → IsFirstFault bytes.now fault → IsFirstFault bytes.now other →
+        fault ≡ other }
     ensures none { (fault : LogFault) (log : Log) → IsFirstFault bytes.now fault → IsLogText bytes.now log → ⊥ }
 {
     let Some((_, _, lines)) = header_at(bytes) else {

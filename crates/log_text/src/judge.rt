@@ -175,7 +175,8 @@ fn has_bad_arcs(tally: &Tally, what: Record, has_arcs: bool, list: &ArcList) -> 
     has_arcs && (!list.rising || some_arc_is_bad(&list.numbers, record_hart(&what), &tally.numbers))
 }
 
-/// Whether an arc is of the own hart, or from a record that has not come: all eight harts are looked at, without a jump.
+/// Whether an arc is of the own hart, or from a record that has not come: all eight harts
+/// are looked at, without a jump.
 #[inline]
 fn some_arc_is_bad(arcs: &[u32; 8], own: u8, numbers: &[u32; 8]) -> bool
     ensures { result ≡ list_any (λ point. (point.hart == own)

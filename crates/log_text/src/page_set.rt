@@ -1,3 +1,4 @@
+//! The pages that are mapped.
 ghost use Rattle.std.specs.Prelude.{◌≡◌, ◌+◌, ◌≤◌, length, false, true, not, IfOk};
 ghost use Rattle.pl_base.specs.declared.layout.TheConstants.{PAGE_COUNT};
 ghost use Rattle.log_text.specs.Pages.{holds_at, some_page};

@@ -1,3 +1,4 @@
+//! What the rules ask of the lines so far.
 use crate::page_set::PageSet;
 use pl_event::{Kind, PageRun, Point, Record, record_hart};
 use std::alloc::{AllocError, Global};

@@ -11,8 +11,8 @@ use pl_base::{FaultCause, LoadWidth, NoMemory, StoreWidth};
 use pl_event::{Arcs, Kind, Line, Lines, Log, PageKind, PageRun, Point, Record};
 use std::alloc::{AllocError, Global};
 
-/// The text of a log. It may have any number of records, and their numbers may be any of 32 bits; the text of a log that
-/// is well-formed is read as that log, and is short enough to be read.
+/// The text of a log. It may have any number of records, and their numbers may be any of 32 bits; the text of a log
+/// that is well-formed is read as that log, and is short enough to be read.
 pub fn write_log(alloc: Global, log: &Log) -> Result<Vec<u8>, NoMemory>
     requires { IsWritable log.now }
     ensures text { IfOk result (λ text. text.items ≡ log_spelling log.now) }

@@ -1,8 +1,8 @@
 //! MemCheck: reports bad accesses, as AddrCheck does, and uses of bytes that nothing has written.
 //!
-//! Bit 0 of a nibble says that the byte may be touched, bit 1 that it is defined. A register's mask marks its bytes that
-//! are not defined: a load marks them where a byte may be touched and is not defined, and a store takes the marks along.
-//! A byte that may not be touched is reported at the access itself, so its load marks nothing.
+//! Bit 0 of a nibble says that the byte may be touched, bit 1 that it is defined. A register's mask marks its bytes
+//! that are not defined: a load marks them where a byte may be touched and is not defined, and a store takes the marks
+//! along. A byte that may not be touched is reported at the access itself, so its load marks nothing.
 #![tactic(auto)]
 
 ghost use Rattle.std.specs.Prelude.{◌≡◌};

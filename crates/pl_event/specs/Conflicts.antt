@@ -66,14 +66,18 @@ pub record IsPair (lines : List Line) (i j : ℕ) (a : Event) (n : ℕ) (b : Eve
 abbrev pub HasNotice : List Line → ℕ → ℕ → ℕ → Type 0
 HasNotice lines h u n = (k : ℕ) × IsNotice lines h k u n
 
--- the hart of the event that is no alert has the alert's notice; of two alerts the later one's hart has the earlier one's
+-- the hart of the event that is no alert has the alert's notice; of two alerts the later
+-- one's hart has the earlier one's
 abbrev pub IsNoticed : List Line → Event → ℕ → Event → ℕ → Type 0
-IsNoticed lines a n b m = MatchBool (is_alert_kind a.kind) (HasNotice lines b.hart a.hart n) (HasNotice lines a.hart b.hart m)
+IsNoticed lines a n b m =
+    MatchBool (is_alert_kind a.kind) (HasNotice lines b.hart a.hart n) (HasNotice lines a.hart b.hart m)
 
 -- each two conflicting events are ordered, where the later one's position is below `upto`
 pub record AreOrdered (size : ℕ) (lines : List Line) (upto : ℕ) : Type 0 where
-  pub accesses : (i j : ℕ) (a : Event) (n : ℕ) (b : Event) (m : ℕ) → j < upto → IsPair lines i j a n b m → ShareBlock (access_of size a.kind) (access_of size b.kind) → Path (Into lines) a.hart n b.hart m
-  pub alerts : (i j : ℕ) (a : Event) (n : ℕ) (b : Event) (m : ℕ) → j < upto → IsPair lines i j a n b m → MeetByAlert a.kind b.kind → IsNoticed lines a n b m
+  pub accesses : (i j : ℕ) (a : Event) (n : ℕ) (b : Event) (m : ℕ) → j < upto → IsPair lines i j a n b m →
+      ShareBlock (access_of size a.kind) (access_of size b.kind) → Path (Into lines) a.hart n b.hart m
+  pub alerts : (i j : ℕ) (a : Event) (n : ℕ) (b : Event) (m : ℕ) → j < upto → IsPair lines i j a n b m →
+      MeetByAlert a.kind b.kind → IsNoticed lines a n b m
 
 -- each two conflicting events are ordered
 abbrev pub IsOrdered : Log → Type 0

@@ -28,16 +28,21 @@ IsNotice lines u n h m = (i : ℕ) × (line : Line) × IsRecord lines i u n line
 
 -- record m of hart h follows a notice of record n of hart u
 abbrev pub IsAfter : List Line → ℕ → ℕ → ℕ → ℕ → Type 0
-IsAfter lines u n h m = (i : ℕ) × (line : Line) × (k : ℕ) × IsRecord lines i h m line × (k + 1 ≡ m) × IsNotice lines h k u n
+IsAfter lines u n h m =
+    (i : ℕ) × (line : Line) × (k : ℕ) × IsRecord lines i h m line × (k + 1 ≡ m) × IsNotice lines h k u n
 
--- from an arc's source to its record, from a notice to its event, and from that event to the record that follows the notice
+-- from an arc's source to its record, from a notice to its event, and from that event to
+-- the record that follows the notice
 abbrev pub Into : List Line → ℕ → ℕ → ℕ → ℕ → Type 0
 Into lines u n h m = IsArc lines u n h m ⊎ (IsNotice lines u n h m ⊎ IsAfter lines u n h m)
 
--- what arcs and notices keep in a well-formed log: they are of its harts, an arc's source is an earlier record of another
--- hart, a notice is of a later record of another hart, and its own hart has no record until that one has come
+-- what arcs and notices keep in a well-formed log: they are of its harts, an arc's source is an earlier record of
+-- another hart, a notice is of a later record of another hart, and its own hart has no record until that one has come
 pub record IsFlow (harts : ℕ) (lines : List Line) : Type 0 where
   pub within : (i h m : ℕ) (line : Line) → IsRecord lines i h m line → h < harts
-  pub arcs : (i h m : ℕ) (line : Line) → IsRecord lines i h m line → (u n : ℕ) → arc_of line u ≡ Some n → (u < harts) × (u ≢ h) × (1 ≤ n) × (n ≤ records_before u lines i)
-  pub notices : (i h m : ℕ) (line : Line) → IsRecord lines i h m line → (u n : ℕ) → line.what ≡ notice_of h u n → (u < harts) × (u ≢ h) × (records_before u lines i < n)
-  pub closed : (i h m : ℕ) (line : Line) → IsRecord lines i h (m + 1) line → (u n : ℕ) → IsNotice lines h m u n → n ≤ records_before u lines i
+  pub arcs : (i h m : ℕ) (line : Line) → IsRecord lines i h m line → (u n : ℕ) → arc_of line u ≡ Some n →
+      (u < harts) × (u ≢ h) × (1 ≤ n) × (n ≤ records_before u lines i)
+  pub notices : (i h m : ℕ) (line : Line) → IsRecord lines i h m line → (u n : ℕ) → line.what ≡ notice_of h u n →
+      (u < harts) × (u ≢ h) × (records_before u lines i < n)
+  pub closed : (i h m : ℕ) (line : Line) → IsRecord lines i h (m + 1) line → (u n : ℕ) → IsNotice lines h m u n →
+      n ≤ records_before u lines i

@@ -16,5 +16,7 @@ pub record Tells (heads : Heads) (lines : List Line) (i : ℕ) : Type 0 where
   pub place : heads.place ≡ length (events_of (take i lines))
   pub events : (h : ℕ) → h < 8 → slice_index heads.events h ≡ events_on h (events_of (take i lines))
   pub records : (h : ℕ) → h < 8 → slice_index heads.records h ≡ records_before h lines i
-  pub told : (h : ℕ) (p : Point) → slice_index_or heads.open h None ≡ Some p → IsNotice lines h (records_before h lines i) p.hart p.number
-  pub all : (h u n : ℕ) → h < 8 → IsNotice lines h (records_before h lines i) u n → (p : Point) × (slice_index_or heads.open h None ≡ Some p) × (p.hart ≡ u) × (p.number ≡ n)
+  pub told : (h : ℕ) (p : Point) → slice_index_or heads.open h None ≡ Some p →
+      IsNotice lines h (records_before h lines i) p.hart p.number
+  pub all : (h u n : ℕ) → h < 8 → IsNotice lines h (records_before h lines i) u n →
+      (p : Point) × (slice_index_or heads.open h None ≡ Some p) × (p.hart ≡ u) × (p.number ≡ n)

@@ -30,6 +30,7 @@ mapped_at log i = fold mapped_after (is_in_runs log.pages) (take i log.lines)
 
 -- pages to be mapped are not, and with them at most 512 are; pages to be unmapped are mapped
 abbrev pub KeepsPages : (ℕ → Bool) → Kind → Type 0
-KeepsPages mapped (Mp first count) = EachPage mapped first count false × (count_below mapped PAGE_COUNT + count ≤ MAX_MAPPED_PAGES)
+KeepsPages mapped (Mp first count) =
+    EachPage mapped first count false × (count_below mapped PAGE_COUNT + count ≤ MAX_MAPPED_PAGES)
 KeepsPages mapped (Um first count) = EachPage mapped first count true
 KeepsPages mapped _ = Unit {0}

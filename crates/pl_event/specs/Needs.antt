@@ -26,7 +26,8 @@ is_notice u n (Some line) = announces u n line.what
 -- record m of hart h has an arc from u:n, or follows a notice of it, or has a notice there
 abbrev pub is_source : List Line → ℕ → ℕ → ℕ → ℕ → Bool
 is_source lines u n h m =
-    (has_arc u n (record_of lines h m) || (is_some (record_of lines h m) && is_notice u n (record_of lines h (m - 1)))) || is_notice h m (record_of lines u n)
+    (has_arc u n (record_of lines h m) || (is_some (record_of lines h m) && is_notice u n (record_of lines h (m - 1))))
+    || is_notice h m (record_of lines u n)
 
 -- the greatest number from 1 to a bound that passes a test
 abbrev pub greatest : (ℕ → Bool) → ℕ → Option ℕ

@@ -34,4 +34,5 @@ events_on hart events = count_by (λ event. event.hart == hart) events
 -- the positions, from `at` on, of a hart's records
 abbrev pub positions_from : ℕ → ℕ → List Line → List ℕ
 positions_from hart at [] = []
-positions_from hart at (line ∷ lines) = if is_of hart line then at ∷ positions_from hart (suc at) lines else positions_from hart (suc at) lines
+positions_from hart at (line ∷ lines) =
+    if is_of hart line then at ∷ positions_from hart (suc at) lines else positions_from hart (suc at) lines

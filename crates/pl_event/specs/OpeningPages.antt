@@ -12,7 +12,8 @@ is_in_runs runs page = list_any (λ run. is_among run.first run.count page) runs
 -- the runs lie inside memory, from page `from` on, each after the one before it
 abbrev pub RiseFrom : ℕ → List PageRun → Type 0
 RiseFrom from [] = Unit {0}
-RiseFrom from (run ∷ runs) = IsPageRange run.first run.count × (from ≤ run.first) × RiseFrom (run.first + run.count) runs
+RiseFrom from (run ∷ runs) =
+    IsPageRange run.first run.count × (from ≤ run.first) × RiseFrom (run.first + run.count) runs
 
 -- how many pages they have
 abbrev pub pages_in : List PageRun → ℕ

@@ -26,7 +26,8 @@ IsEvent lines i n event = (line : Line) × IsRecord lines i event.hart n line ×
 -- record m of hart h, counted from 1
 abbrev pub record_of : List Line → ℕ → ℕ → Option Line
 record_of [] h m = None
-record_of (line ∷ lines) h m = if is_of h line then (if m == 1 then Some line else record_of lines h (m - 1)) else record_of lines h m
+record_of (line ∷ lines) h m =
+    if is_of h line then (if m == 1 then Some line else record_of lines h (m - 1)) else record_of lines h m
 
 -- which line has record m of hart h, counted from 1; what is no record comes before or after all
 abbrev pub line_number : List Line → ℕ → ℕ → ℕ

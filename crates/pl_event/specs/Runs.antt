@@ -37,7 +37,8 @@ ends_hart _ = false
 
 -- record n of hart u comes, and is an alert event
 abbrev pub IsAlert : List Line → ℕ → ℕ → Type 0
-IsAlert lines u n = (i : ℕ) × (event : Event) × IsEvent lines i n event × (event.hart ≡ u) × IsTrue (is_alert_kind event.kind)
+IsAlert lines u n =
+    (i : ℕ) × (event : Event) × IsEvent lines i n event × (event.hart ≡ u) × IsTrue (is_alert_kind event.kind)
 
 -- blocks of 16 bytes, or of 4
 abbrev pub IsBlockSize : ℕ → Type 0
@@ -51,14 +52,15 @@ pub record IsOpening (log : Log) : Type 0 where
   pub rising : RiseFrom 0 log.pages
   pub room : pages_in log.pages ≤ MAX_MAPPED_PAGES
 
--- the log of a run: each line is sound, arcs and notices lead forward, what a notice names is an alert event, a hart has no
--- event after its end, and an event maps and unmaps pages that may be
+-- the log of a run: each line is sound, arcs and notices lead forward, what a notice names is an alert event, a hart
+-- has no event after its end, and an event maps and unmaps pages that may be
 pub record IsRunLog (log : Log) : Type 0 where
   pub opening : IsOpening log
   pub sound : All (IsSoundLine log.harts) log.lines
   pub flow : IsFlow log.harts log.lines
   pub alerts : (h k u n : ℕ) → IsNotice log.lines h k u n → IsAlert log.lines u n
-  pub live : (i j : ℕ) (a b : Event) → i < j → EventAt log.lines i a → EventAt log.lines j b → a.hart ≡ b.hart → ends_hart a.kind ≡ false
+  pub live : (i j : ℕ) (a b : Event) → i < j → EventAt log.lines i a → EventAt log.lines j b → a.hart ≡ b.hart →
+      ends_hart a.kind ≡ false
   pub maps : (i : ℕ) (event : Event) → EventAt log.lines i event → KeepsPages (mapped_at log i) event.kind
 
 -- each record number that the lines name is at most `most`

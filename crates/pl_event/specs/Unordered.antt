@@ -18,10 +18,11 @@ pub record IsOrderedPair (size : ℕ) (lines : List Line) (a : Event) (n : ℕ) 
   pub accesses : ShareBlock (access_of size a.kind) (access_of size b.kind) → Path (Into lines) a.hart n b.hart m
   pub alerts : MeetByAlert a.kind b.kind → IsNoticed lines a n b m
 
--- the events at positions i and j are the first pair that is not ordered: the later one is the first event of the log that
--- is not ordered after some earlier conflicting event, and the earlier one is the earliest of these
+-- the events at positions i and j are the first pair that is not ordered: the later one is the first event of the log
+-- that is not ordered after some earlier conflicting event, and the earlier one is the earliest of these
 pub record IsFirstUnordered (log : Log) (i j : ℕ) (a : Event) (n : ℕ) (b : Event) (m : ℕ) : Type 0 where
   pub pair : IsPair log.lines i j a n b m
   pub unordered : IsUnordered log.block log.lines a n b m
   pub later : AreOrdered log.block log.lines j
-  pub earlier : (k : ℕ) (c : Event) (p : ℕ) → k < i → IsPair log.lines k j c p b m → IsOrderedPair log.block log.lines c p b m
+  pub earlier : (k : ℕ) (c : Event) (p : ℕ) → k < i → IsPair log.lines k j c p b m →
+      IsOrderedPair log.block log.lines c p b m

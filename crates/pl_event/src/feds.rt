@@ -28,8 +28,8 @@ pub struct Links {
 
 /// Lines as a worker takes them, in order: what a worker keeps of its stream.
 ///
-/// Records lie side by side with their places and numbers. The arcs and needs of the lines that have any are kept apart,
-/// so a line without takes 24 bytes.
+/// Records lie side by side with their places and numbers. The arcs and needs of the lines that have any are kept
+/// apart, so a line without takes 24 bytes.
 #[derive(Drop)]
 pub struct Feds {
     rows: Vec<FedRow>,

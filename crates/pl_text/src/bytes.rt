@@ -1,3 +1,4 @@
+//! The first byte or the first word of a text.
 ghost use Rattle.std.specs.Prelude.{◌≡◌, ◌∷◌, ◌++◌, [], ℕ, List, IfSome, IfNone, IsSomeAnd};
 
 /// The first byte and what stands behind it.

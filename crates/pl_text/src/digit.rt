@@ -1,3 +1,4 @@
+//! The values of digits, in bases up to 16.
 ghost use Rattle.std.specs.Prelude.{◌≡◌, ◌<◌, ◌≤◌, ◌+◌, ◌*◌, ℕ, List, ◌∷◌, ◌++◌, [], false, IsTrue, IfSome, IfNone, IsSomeAnd};
 ghost use Rattle.std.specs.Fmt.{decimal, digit_glyph};
 ghost use Rattle.pl_text.specs.Number.{BeginsWithDigit};
@@ -91,7 +92,8 @@ pub fn begins_with_digit(text: &[u8], base: u8) -> bool
 fn value_at(text: &[u8], base: u8) -> u8
     requires { base ≤ 16 }
     ensures found { result < base → (rest : List ℕ) × (text.now ≡ digit_glyph false result ∷ rest) }
-    ensures every { (value : ℕ) (rest : List ℕ) → value < base → text.now ≡ digit_glyph false value ∷ rest → result ≡ value }
+    ensures every { (value : ℕ) (rest : List ℕ) → value < base → text.now ≡ digit_glyph false value ∷ rest →
+        result ≡ value }
 {
     match text {
         [byte, ..] => value_in(*byte, base),
@@ -107,7 +109,8 @@ pub fn second_digit(value: u8, text: &[u8], base: u8) -> (u32, &[u8])
     requires low { 2 ≤ base }
     requires small { base ≤ 16 }
     requires value { value < 16 }
-    ensures taken { (byte digit : ℕ) (rest : List ℕ) → text.now ≡ byte ∷ rest → digit < base → byte ≡ digit_glyph false digit
+    ensures taken { (byte digit : ℕ) (rest : List ℕ) → text.now ≡ byte ∷ rest → digit < base →
+        byte ≡ digit_glyph false digit
         → (result.0 ≡ value * base + digit) × (result.1.now ≡ rest) }
     ensures left { (BeginsWithDigit base text.now → ⊥) → (result.0 ≡ value) × (result.1.now ≡ text.now) }
 {

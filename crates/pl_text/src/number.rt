@@ -1,3 +1,4 @@
+//! Numbers in digits of a base.
 ghost use Rattle.std.specs.Prelude.{◌≡◌, ◌<◌, ◌≤◌, ◌^◌, ◌++◌, ℕ, List, Some, false, IfSome, IsSomeAnd};
 ghost use Rattle.std.specs.Fmt.{digits};
 ghost use Rattle.pl_text.specs.Number.{BeginsWithDigit, BeginsWithNumber};

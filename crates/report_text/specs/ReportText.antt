@@ -15,7 +15,9 @@ hex n = digits 16 false n
 
 -- the lifeguard, the number of harts, and the number of reports
 abbrev pub head_lines : Name → ℕ → ℕ → List ℕ
-head_lines name harts count = codes "PREP 1 " ++ guard_word name ++ codes " harts " ++ decimal harts ++ codes "\nreports " ++ decimal count ++ 10 ∷ []
+head_lines name harts count =
+    codes "PREP 1 " ++ guard_word name ++ codes " harts " ++ decimal harts ++ codes "\nreports " ++ decimal count
+    ++ 10 ∷ []
 
 -- what was found: an address in hex, or a register
 abbrev pub finding : ReportKind → ℕ → List ℕ
@@ -30,11 +32,13 @@ finding kind.Arg register = codes "arg x" ++ decimal register
 
 -- the hart, the event's number in it, and what was found
 abbrev pub report_line : Report → List ℕ
-report_line report = 104 ∷ decimal report.hart ++ 32 ∷ decimal report.event ++ 32 ∷ finding report.kind report.addr ++ 10 ∷ []
+report_line report =
+    104 ∷ decimal report.hart ++ 32 ∷ decimal report.event ++ 32 ∷ finding report.kind report.addr ++ 10 ∷ []
 
 -- a register of a hart with its mask
 abbrev pub register_line : ℕ → ℕ → ℕ → List ℕ
-register_line hart register mask = codes "reg h" ++ decimal hart ++ codes " x" ++ decimal register ++ 32 ∷ hex mask ++ 10 ∷ []
+register_line hart register mask =
+    codes "reg h" ++ decimal hart ++ codes " x" ++ decimal register ++ 32 ∷ hex mask ++ 10 ∷ []
 
 -- a register whose mask is 0 has no line
 abbrev pub marked_line : ℕ → ℕ → ℕ → List ℕ
@@ -55,4 +59,5 @@ run_line run = codes "mem " ++ hex run.first ++ 32 ∷ hex run.last ++ 32 ∷ he
 -- the whole text
 abbrev pub report_text : Name → ℕ → List Report → List (List ℕ) → List ByteRun → List ℕ
 report_text name harts reports masks runs =
-    head_lines name harts (length reports) ++ flat_map report_line reports ++ mask_lines masks ++ flat_map run_line runs ++ codes "end\n"
+    head_lines name harts (length reports) ++ flat_map report_line reports ++ mask_lines masks ++ flat_map run_line runs
+    ++ codes "end\n"

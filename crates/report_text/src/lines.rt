@@ -1,3 +1,4 @@
+//! The lines of a report, one by one.
 ghost use Rattle.std.specs.Prelude.{◌≡◌, ◌++◌, IfOk, OnOk, string_bytes};
 ghost use Rattle.std.specs.List.{flat_map};
 ghost use Rattle.report_text.specs.ReportText.{head_lines, finding, report_line, register_line, hart_lines, mask_lines, run_line, report_text};

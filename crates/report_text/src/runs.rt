@@ -39,7 +39,8 @@ pub(crate) trait Nibbles {
         requires told { size ≤ count self.now }
         ensures past { addr < result }
         ensures inside { result ≤ size }
-        ensures alike { (a : ℕ) → addr ≤ a → a < result → nibble_at (bytes self.now) a ≡ nibble_at (bytes self.now) addr };
+        ensures alike { (a : ℕ) → addr ≤ a → a < result →
+            nibble_at (bytes self.now) a ≡ nibble_at (bytes self.now) addr };
 }
 
 /// How many cells are compared in one go.
@@ -90,7 +91,8 @@ fn cells_alike(cells: &[u8], place: u32) -> u32
     requires page { IsPage cells.now }
     ensures some { 0 < result }
     ensures inside { place + result ≤ PAGE_BYTES }
-    ensures alike { (a : ℕ) → place ≤ a → a < place + result → nibble_at (bytes_of cells.now) a ≡ nibble_at (bytes_of cells.now) place }
+    ensures alike { (a : ℕ) → place ≤ a → a < place + result →
+        nibble_at (bytes_of cells.now) a ≡ nibble_at (bytes_of cells.now) place }
 {
     if cells.is_empty() {
         PAGE_BYTES - place
@@ -105,7 +107,8 @@ fn cells_alike(cells: &[u8], place: u32) -> u32
 #[inline]
 fn is_block_alike(cells: &[u8], from: usize) -> bool
     requires { from + 64 ≤ length cells.now }
-    ensures { result ≡ true → (a : ℕ) → from ≤ a → a < from + 64 → slice_index cells.now a ≡ slice_index cells.now from }
+    ensures { result ≡ true → (a : ℕ) → from ≤ a → a < from + 64 →
+        slice_index cells.now a ≡ slice_index cells.now from }
 {
     let first = cells[from];
     let mut alike = true;

@@ -55,7 +55,9 @@ abbrev pub count_lines : Figures → List ℕ
 count_lines f = figure (codes "steps") f.steps ++ figure (codes "records") f.records ++ figure (codes "arcs") f.arcs
 
 abbrev pub report_lines : Figures → List ℕ
-report_lines f = figure (codes "reports addrcheck") f.addr ++ figure (codes "reports taintcheck") f.taint ++ figure (codes "reports memcheck") f.mem
+report_lines f =
+    figure (codes "reports addrcheck") f.addr ++ figure (codes "reports taintcheck") f.taint
+    ++ figure (codes "reports memcheck") f.mem
 
 -- the summary of a run whose job was drawn from a seed, with so many actions a hart
 abbrev pub summary_text : ℕ → ℕ → Figures → List ℕ

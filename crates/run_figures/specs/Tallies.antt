@@ -24,7 +24,8 @@ pub record HasPlayed (harts : ℕ) (pages : List PageRun) (events : List Event) 
   pub mem_harts : tally.mem.harts ≡ harts
 
 -- the event may be the next one
-pub record MayPlay (harts : ℕ) (pages : List PageRun) (events : List Event) (event : Event) (tally : Tally) : Type 0 where
+pub record MayPlay (harts : ℕ) (pages : List PageRun) (events : List Event) (event : Event) (tally : Tally) :
+    Type 0 where
   pub has : HasPlayed harts pages events tally
   pub few : length events < MAX_RECORDS
   pub valid : IsValidEvent event harts

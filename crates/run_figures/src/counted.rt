@@ -12,7 +12,8 @@ use pl_event::Line;
 use run_record::{Recording, recording_lines};
 use std::alloc::{AllocError, Global};
 
-/// The steps of a run, the records and arcs of its recorded log, and how many reports each lifeguard's plain rules give.
+/// The steps of a run, the records and arcs of its recorded log, and how many reports
+/// each lifeguard's plain rules give.
 #[derive(Clone, Copy, Debug, PartialEq, Eq)]
 pub struct Figures {
     pub steps: u32,

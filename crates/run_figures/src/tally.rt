@@ -59,7 +59,8 @@ impl Tally {
 
     /// Plays one more event.
     fn play(&mut self, event: &Event) -> Result<(), NoMemory>
-        requires { (harts : ℕ) × (pages : List PageRun) × (events : List Event) × MayPlay harts pages events event.now self.old }
+        requires { (harts : ℕ) × (pages : List PageRun) × (events : List Event)
+            × MayPlay harts pages events event.now self.old }
         ensures played { OnOk result ((harts : ℕ) (pages : List PageRun) (events : List Event) →
             MayPlay harts pages events event.now self.old → HasPlayed harts pages (events ++ event.now ∷ []) self.new) }
         ensures records { self.new.records ≡ self.old.records }
@@ -75,7 +76,8 @@ impl Tally {
         requires { (harts : ℕ) × (pages : List PageRun) × (lines : List Line)
             × MayTally harts pages lines (line.now ∷ []) self.old }
         ensures { OnOk result ((harts : ℕ) (pages : List PageRun) (lines : List Line) →
-            MayTally harts pages lines (line.now ∷ []) self.old → HasTallied harts pages (lines ++ line.now ∷ []) self.new) }
+            MayTally harts pages lines (line.now ∷ []) self.old →
+            HasTallied harts pages (lines ++ line.now ∷ []) self.new) }
     {
         self.records += 1;
         self.arcs += count_arcs(&line.arcs);
@@ -87,7 +89,8 @@ impl Tally {
 
     /// More lines.
     pub fn add_all(&mut self, more: &[Line]) -> Result<(), NoMemory>
-        requires { (harts : ℕ) × (pages : List PageRun) × (lines : List Line) × MayTally harts pages lines more.now self.old }
+        requires { (harts : ℕ) × (pages : List PageRun) × (lines : List Line)
+            × MayTally harts pages lines more.now self.old }
         ensures { OnOk result ((harts : ℕ) (pages : List PageRun) (lines : List Line) →
             MayTally harts pages lines more.now self.old → HasTallied harts pages (lines ++ more.now) self.new) }
     {

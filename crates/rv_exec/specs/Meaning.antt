@@ -52,7 +52,8 @@ result_of Mul a b = a * b % 2 ^ 32
 result_of Mulh a b = high (signed a *ℤ signed b)
 result_of Mulhsu a b = high (signed a *ℤ pos b)
 result_of Mulhu a b = high (pos a *ℤ pos b)
-result_of Div a b = if b == 0 then 2 ^ 32 - 1 else (if is_overflow a b then 2 ^ 31 else unsigned (int_div (signed a) (signed b)))
+result_of Div a b =
+    if b == 0 then 2 ^ 32 - 1 else (if is_overflow a b then 2 ^ 31 else unsigned (int_div (signed a) (signed b)))
 result_of Divu a b = if b == 0 then 2 ^ 32 - 1 else a / b
 result_of Rem a b = if b == 0 then a else (if is_overflow a b then 0 else unsigned (int_rem (signed a) (signed b)))
 result_of Remu a b = if b == 0 then a else a % b
@@ -103,14 +104,20 @@ at_pc h pc = record { pc = pc; registers = h.registers }
 -- the next state, or a request of the memory, or a call of the kernel
 abbrev pub effect_of : Hart → Instr → Effect
 effect_of h (instrs.Lui rd imm) = Plain (instrs.Lui rd imm) (after h rd (imm * 2 ^ 12) (next_pc h))
-effect_of h (instrs.Auipc rd imm) = Plain (instrs.Auipc rd imm) (after h rd ((h.pc + imm * 2 ^ 12) % 2 ^ 32) (next_pc h))
+effect_of h (instrs.Auipc rd imm) =
+    Plain (instrs.Auipc rd imm) (after h rd ((h.pc + imm * 2 ^ 12) % 2 ^ 32) (next_pc h))
 effect_of h (instrs.Jal rd off) = Plain (instrs.Jal rd off) (after h rd (next_pc h) (moved h.pc off))
-effect_of h (instrs.Jalr rd rs1 imm) = Plain (instrs.Jalr rd rs1 imm) (after h rd (next_pc h) (moved (x h rs1) imm / 2 * 2))
-effect_of h (instrs.Branch op rs1 rs2 off) = Plain (instrs.Branch op rs1 rs2 off) (at_pc h (if is_taken op (x h rs1) (x h rs2) then moved h.pc off else next_pc h))
+effect_of h (instrs.Jalr rd rs1 imm) =
+    Plain (instrs.Jalr rd rs1 imm) (after h rd (next_pc h) (moved (x h rs1) imm / 2 * 2))
+effect_of h (instrs.Branch op rs1 rs2 off) =
+    Plain (instrs.Branch op rs1 rs2 off)
+    (at_pc h (if is_taken op (x h rs1) (x h rs2) then moved h.pc off else next_pc h))
 effect_of h (instrs.Load width rd rs1 imm) = Load (instrs.Load width rd rs1 imm) (moved (x h rs1) imm)
 effect_of h (instrs.Store width rs2 rs1 imm) = Store (instrs.Store width rs2 rs1 imm) (moved (x h rs1) imm) (x h rs2)
-effect_of h (instrs.OpImm op rd rs1 imm) = Plain (instrs.OpImm op rd rs1 imm) (after h rd (result_of (on_registers op) (x h rs1) (unsigned imm)) (next_pc h))
-effect_of h (instrs.Op op rd rs1 rs2) = Plain (instrs.Op op rd rs1 rs2) (after h rd (result_of op (x h rs1) (x h rs2)) (next_pc h))
+effect_of h (instrs.OpImm op rd rs1 imm) =
+    Plain (instrs.OpImm op rd rs1 imm) (after h rd (result_of (on_registers op) (x h rs1) (unsigned imm)) (next_pc h))
+effect_of h (instrs.Op op rd rs1 rs2) =
+    Plain (instrs.Op op rd rs1 rs2) (after h rd (result_of op (x h rs1) (x h rs2)) (next_pc h))
 effect_of h (instrs.Fence free) = Plain (instrs.Fence free) (at_pc h (next_pc h))
 effect_of h instrs.Ecall = Call
 

@@ -35,9 +35,11 @@ pub data Form : Type 0 where
 abbrev pub immediate : Form → ℕ → ℤ
 immediate I word = signed (2 ^ 11) (bits 20 12 word)
 immediate S word = signed (2 ^ 11) (bits 25 7 word * 2 ^ 5 + bits 7 5 word)
-immediate B word = signed (2 ^ 12) (bits 31 1 word * 2 ^ 12 + bits 7 1 word * 2 ^ 11 + bits 25 6 word * 2 ^ 5 + bits 8 4 word * 2)
+immediate B word =
+    signed (2 ^ 12) (bits 31 1 word * 2 ^ 12 + bits 7 1 word * 2 ^ 11 + bits 25 6 word * 2 ^ 5 + bits 8 4 word * 2)
 immediate U word = pos (bits 12 20 word)
-immediate J word = signed (2 ^ 20) (bits 31 1 word * 2 ^ 20 + bits 12 8 word * 2 ^ 12 + bits 20 1 word * 2 ^ 11 + bits 21 10 word * 2)
+immediate J word =
+    signed (2 ^ 20) (bits 31 1 word * 2 ^ 20 + bits 12 8 word * 2 ^ 12 + bits 20 1 word * 2 ^ 11 + bits 21 10 word * 2)
 immediate Shift word = pos (bits 20 5 word)
 immediate R word = pos 0
 immediate Free word = pos 0

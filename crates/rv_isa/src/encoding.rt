@@ -1,3 +1,4 @@
+//! The word of an instruction.
 ghost use Rattle.std.specs.Prelude.{◌≡◌, ℕ, [], ◌∷◌, ◌+◌, ◌*◌, ◌^◌, ◌<◌, ◌≤◌, ◌%◌, ℤ, pos, neg_ℤ, ◌≤ℤ◌, ◌<ℤ◌, unsigned_abs, Some};
 ghost use Rattle.rv_isa.specs.Fields.{bits, rd_of, rs1_of, rs2_of, signed, immediate, I, S, B, U, J};
 ghost use Rattle.rv_isa.specs.Table.{row, opcode, funct3, funct7, branch, load, store, op_imm, op, instruction_of};

@@ -1,3 +1,4 @@
+//! The instructions of RV32IM.
 use pl_base::{LoadWidth, StoreWidth};
 
 /// One instruction of RV32IM with its fields. Registers are numbered from 0 to 31.

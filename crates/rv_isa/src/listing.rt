@@ -1,3 +1,4 @@
+//! The text of an instruction in a listing.
 ghost use Rattle.std.specs.Prelude.{◌≡◌, ◌++◌, IfOk, string_bytes};
 ghost use Rattle.std.specs.Fmt.{decimal, signed_decimal};
 ghost use Rattle.rv_isa.specs.Table.{row, branch, load, store, op_imm, op};
@@ -65,13 +66,15 @@ fn with_number(
     second: u8,
     number: i32,
 ) -> Result<String, AllocError>
-    ensures { IfOk result (λ shown. string_bytes shown ≡ name.now ++ three (register first) (register second) (signed_decimal number)) }
+    ensures { IfOk result (λ shown. string_bytes shown
+        ≡ name.now ++ three (register first) (register second) (signed_decimal number)) }
 {
     format!(in alloc; "{name} x{first}, x{second}, {number}")
 }
 
 fn with_registers(alloc: Global, name: &str, rd: u8, rs1: u8, rs2: u8) -> Result<String, AllocError>
-    ensures { IfOk result (λ shown. string_bytes shown ≡ name.now ++ three (register rd) (register rs1) (register rs2)) }
+    ensures { IfOk result (λ shown. string_bytes shown
+        ≡ name.now ++ three (register rd) (register rs1) (register rs2)) }
 {
     format!(in alloc; "{name} x{rd}, x{rs1}, x{rs2}")
 }

@@ -1,3 +1,4 @@
+//! The ranges of an instruction's fields.
 ghost use Rattle.std.specs.Prelude.{◌≡◌, ◌%◌, ◌<◌, IsTrue, ◌↔◌, ℤ, pos, neg_ℤ, ◌≤ℤ◌, ◌<ℤ◌, unsigned_abs};
 ghost use Rattle.rv_isa.specs.Table.{row, op_imm};
 ghost use Rattle.rv_isa.specs.Valid.{IsValid, IsWithin, IsOffset, IsOperand};

@@ -17,7 +17,8 @@ pub record IsReadOf (plan : Planned) (v : View) (number op word : ℕ) (check : 
   pub word_is : o.word ≡ word
   pub check_is : o.check ≡ check
 
--- operation `op` of the hart's record `number` is this write of the word, the hart's next write, and this is what it puts
+-- operation `op` of the hart's record `number` is this write of the word, the hart's next
+-- write, and this is what it puts
 pub record IsWriteOf (plan : Planned) (v : View) (number op word : ℕ) (put : Put) (o : Op) : Type 0 where
   pub at : ℕ
   pub word_is : o.word ≡ word

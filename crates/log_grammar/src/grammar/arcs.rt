@@ -1,3 +1,4 @@
+//! The arcs behind a record.
 ghost use Rattle.std.specs.Prelude.{IfSome, IfNone, ◌≡◌, ◌∷◌, List, ℕ};
 ghost use Rattle.pl_event.specs.declared.log.Point.{Point};
 ghost use Rattle.log_grammar.specs.Form.{ArePointsInForm, MayHave, most_read};

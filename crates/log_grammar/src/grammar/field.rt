@@ -1,3 +1,4 @@
+//! The fields of a line: numbers, addresses, registers, widths.
 ghost use Rattle.std.specs.Prelude.{◌≡◌, ◌<◌, ◌≤◌, ◌^◌, ℕ, [], ◌∷◌, Some, IfSome, if◌then◌else◌};
 ghost use Rattle.pl_base.specs.declared.widths.LoadWidth.{LoadWidth};
 ghost use Rattle.pl_base.specs.declared.widths.StoreWidth.{StoreWidth};

@@ -1,3 +1,4 @@
+//! The kind of an event, by its word.
 ghost use Rattle.std.specs.Prelude.{◌∷◌, codes};
 ghost use Rattle.log_grammar.specs.Form.{HasFormFields};
 ghost use Rattle.log_grammar.specs.Spelling.{kind_words};

@@ -1,3 +1,4 @@
+//! The words of a record, and of a run of pages.
 ghost use Rattle.std.specs.Prelude.{◌∷◌, IfSome, IfNone};
 ghost use Rattle.log_grammar.specs.Form.{IsRecordInForm, most_read};
 ghost use Rattle.log_grammar.specs.Spelling.{record_words};

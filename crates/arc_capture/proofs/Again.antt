@@ -18,16 +18,17 @@ use Rattle.conflict_alerts.specs.Placing.{placed}
 use Rattle.arc_reduce.specs.Reduction.{records_in}
 use Rattle.arc_capture.proofs.Feeding.{length_from}
 use Rattle.arc_capture.specs.declared.marker.Marker.{Marker}
-use Rattle.arc_capture.specs.Recorder.{HasRecorded, IsValidRecord, MayFeed, MayRecord}
+use Rattle.pl_event.specs.Valid.{HasValidEvent}
+use Rattle.arc_capture.specs.Recorder.{HasRecorded, MayFeed, MayRecord}
 
-sound_record : (harts : ℕ) (line : Line) (what : Record) → IsSoundRecord harts line.arcs what → IsValidRecord harts what
+sound_record : (harts : ℕ) (line : Line) (what : Record) → IsSoundRecord harts line.arcs what → HasValidEvent harts what
 sound_record harts line (entry.Event event) sound = sound
 sound_record harts line (entry.Notice hart point) sound = tt
 
 -- the event of a record may be the next one
 pub may_feed : (placer : Placer) (marker : Marker) (size : ℕ) (events : List Event) (lines : List Line) (what : Record) (event : Event) → what ≡ entry.Event event
     → MayRecord placer marker size events lines what → MayFeed placer marker size events lines event
-may_feed placer marker size events lines what event is may = record { has = may.has; few = may.few; valid = subst (IsValidRecord placer.harts) is may.valid }
+may_feed placer marker size events lines what event is may = record { has = may.has; few = may.few; valid = subst (HasValidEvent placer.harts) is may.valid }
 
 -- its lines were added
 pub recorded_event : (placer : Placer) (marker : Marker) (size : ℕ) (events : List Event) (before more lines : List Line) (what : Record) (event : Event) → what ≡ entry.Event event → lines ≡ before ++ more
@@ -46,7 +47,7 @@ module _ (log : Log) (run : IsRunLog log) (few : length log.lines ≤ 2000000) (
       record {
         has = has;
         few = omega (arith, few, low, few_before log.lines i);
-        valid = subst (λ (h : ℕ). IsValidRecord h what) (sym same) (subst (IsValidRecord log.harts) (sym (is d)) (sound_record log.harts line line.what (run.sound i d low).1));
+        valid = subst (λ (h : ℕ). HasValidEvent h what) (sym same) (subst (HasValidEvent log.harts) (sym (is d)) (sound_record log.harts line line.what (run.sound i d low).1));
       }
 
   -- one line more

@@ -4,10 +4,9 @@ use Rattle.pl_base.specs.declared.layout.TheConstants.{MAX_HARTS, MAX_LINES, MAX
 use Rattle.pl_event.specs.declared.event.Event.{Event}
 use Rattle.pl_event.specs.declared.log.Line.{Line}
 use Rattle.pl_event.specs.declared.log.Record.{Record}
-use Rattle.pl_event.specs.declared.log.Record.TheVariants as entry
 use Rattle.pl_event.specs.Edges.{no_arcs, IsFlow}
 use Rattle.pl_event.specs.Runs.{IsSoundLine}
-use Rattle.pl_event.specs.Valid.{IsValidEvent}
+use Rattle.pl_event.specs.Valid.{HasValidEvent, IsValidEvent}
 use Rattle.conflict_alerts.specs.declared.placer.Placer.{Placer}
 use Rattle.conflict_alerts.specs.Placer.{HasPlaced}
 use Rattle.conflict_alerts.specs.Placing.{placed}
@@ -23,11 +22,6 @@ pub record HasRecorded (placer : Placer) (marker : Marker) (size : ℕ)
   pub seen : HasPlaced placer events
   pub marked : HasMarked marker size (placed placer.harts events) lines
 
--- a record's event is valid
-abbrev pub IsValidRecord : ℕ → Record → Type 0
-IsValidRecord harts (entry.Event event) = IsValidEvent event harts
-IsValidRecord harts (entry.Notice hart point) = Unit {0}
-
 -- the event may be the next one
 pub record MayFeed (placer : Placer) (marker : Marker) (size : ℕ)
     (events : List Event) (lines : List Line) (event : Event) : Type 0 where
@@ -40,7 +34,7 @@ pub record MayRecord (placer : Placer) (marker : Marker) (size : ℕ)
     (events : List Event) (lines : List Line) (what : Record) : Type 0 where
   pub has : HasRecorded placer marker size events lines
   pub few : length events < MAX_RECORDS
-  pub valid : IsValidRecord placer.harts what
+  pub valid : HasValidEvent placer.harts what
 
 -- these lines may be the next ones
 pub record MayMarkAll (marker : Marker) (size : ℕ) (base lines more : List Line) : Type 0 where

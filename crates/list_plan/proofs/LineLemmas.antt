@@ -21,7 +21,8 @@ use Rattle.lifeguard.specs.Rules.{Rules, KeepsLaws}
 use Rattle.order_core.specs.Filled.{words_after}
 use Rattle.shadow_layout.specs.Logs.{log_shapes}
 use Rattle.log_plan.specs.Plans.{opening_list}
-use Rattle.list_plan.specs.inner.Rooms.{IsSoundFor, RecordHasRoom}
+use Rattle.pl_event.specs.Valid.{HasValidEvent}
+use Rattle.list_plan.specs.inner.Rooms.{RecordHasRoom}
 use Rattle.list_plan.proofs.RoomLemmas.{all_inside, record_room, rise_prop}
 use Rattle.pl_event.specs.declared.log.Record.{Record}
 use Rattle.pl_event.specs.declared.log.Record.TheVariants as entry
@@ -67,9 +68,9 @@ module _ (log : Log) (run : ∥ IsRunLog log ∥₁) where
       tells_next new f = ∥∥₁_elim run (hlevel props) (λ (r : IsRunLog log). ∥∥₁_map tells (λ (t : Tells heads log.lines i). f log.harts log.lines i r.flow t (next (hart_of line.what) refl)))
 
 -- a record that has room is sound
-pub sound_of : (rules : Rules) (w : ℕ → ℕ) (harts : ℕ) (what : Record) → ∥ RecordHasRoom rules w harts what ∥₁ → ∥ IsSoundFor harts what ∥₁
+pub sound_of : (rules : Rules) (w : ℕ → ℕ) (harts : ℕ) (what : Record) → ∥ RecordHasRoom rules w harts what ∥₁ → ∥ HasValidEvent harts what ∥₁
 sound_of rules w harts what has = ∥∥₁_map has (by what)
   where
-    by : (r : Record) → RecordHasRoom rules w harts r → IsSoundFor harts r
+    by : (r : Record) → RecordHasRoom rules w harts r → HasValidEvent harts r
     by (entry.Event event) h = h.0
     by (entry.Notice hart point) h = tt

@@ -11,7 +11,7 @@ ghost use Rattle.order_core.specs.Course.{course_of};
 ghost use Rattle.order_core.specs.Lists.{listed};
 ghost use Rattle.log_plan.specs.Plans.{opening_list, plan_of};
 ghost use Rattle.list_plan.specs.Agrees.{Agrees};
-ghost use Rattle.list_plan.specs.inner.Rooms.{IsSoundFor};
+ghost use Rattle.pl_event.specs.Valid.{HasValidEvent};
 ghost use Rattle.list_plan.specs.inner.Rows.{HasRows};
 ghost use Rattle.list_plan.specs.inner.Tables.{IsTable};
 
@@ -43,7 +43,7 @@ fn opening_of<L: Lifeguard>(alloc: Global, log: &Log, guard: L) -> Result<Vec<u6
 
 // Applies the event of a record; a notice has none.
 fn apply_record<L: Lifeguard>(monitor: &mut PlainMonitor<L>, what: &Record) -> Result<(), NoMemory>
-    requires valid { ∥ IsSoundFor monitor.old.harts what.now ∥₁ }
+    requires valid { ∥ HasValidEvent monitor.old.harts what.now ∥₁ }
     requires room { place_of monitor.old.shadow < MAX_RECORDS }
     ensures represents { OnOk result ((pages : List PageRun) (events : List Event)
         → Represents (L.rules monitor.old.guard) pages events monitor.old.shadow

@@ -17,7 +17,8 @@ use Rattle.pl_event.specs.Records.{records_before, IsRecord, IsEvent}
 use Rattle.pl_event.proofs.Places.{before_up, one_place}
 use Rattle.log_clocks.specs.declared.lasts.LastAccesses.{LastAccesses}
 use Rattle.log_clocks.specs.LastAccesses.{last, IsAccess, HasLast}
-use Rattle.log_clocks.specs.inner.Rows.{row_at, newest, some_number, IsIndexed}
+use Rattle.pl_event.specs.Edges.{some_number}
+use Rattle.log_clocks.specs.inner.Rows.{row_at, newest, IsIndexed}
 
 line_at : {x y : Line} → some x ≡ some y → x ≡ y
 line_at {x} {y} e = some-injective x y e

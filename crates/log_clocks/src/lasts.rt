@@ -9,12 +9,13 @@ ghost use Rattle.pl_event.specs.Records.{IsEvent, IsRecord};
 ghost use Rattle.pl_event.specs.Runs.{IsBlockSize, IsSoundLine};
 ghost use Rattle.pl_event.specs.Valid.{IsValidEvent};
 ghost use Rattle.log_clocks.specs.Clocks.{time};
-ghost use Rattle.log_clocks.specs.inner.Rows.{in_row, row_at, zero_row, newest, some_number, IsIndexed};
+ghost use Rattle.pl_event.specs.Edges.{some_number};
+ghost use Rattle.log_clocks.specs.inner.Rows.{in_row, row_at, zero_row, newest, IsIndexed};
 
 use crate::clock::Clock;
 use pl_base::NoMemory;
 use pl_base::layout::MEMORY_BYTES;
-use pl_event::{Arcs, Event, Kind, Line, Record};
+use pl_event::{Arcs, Event, Kind, Line, Record, some_number};
 use std::alloc::Global;
 
 /// Of one block the number of each hart's last load and of its last store, or 0.
@@ -22,13 +23,6 @@ use std::alloc::Global;
 pub struct Row {
     loads: [u32; 8],
     stores: [u32; 8],
-}
-
-// The number of a record, which is not 0.
-fn some_number(number: u32) -> Option<u32>
-    ensures { result ≡ some_number number }
-{
-    if number == 0 { None } else { Some(number) }
 }
 
 impl Row {

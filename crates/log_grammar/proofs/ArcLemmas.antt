@@ -7,7 +7,8 @@ use Rattle.std.proofs.lemmas.List.{ext_get_or, length-map, length-set, get_or-se
 use Rattle.std.proofs.lemmas.List.Sums.{fold_push}
 use Rattle.pl_event.specs.declared.log.Point.{Point}
 use Rattle.log_grammar.specs.declared.points.ArcList.{ArcList}
-use Rattle.log_grammar.specs.Arcs.{arc_of, arcs_in, rises_from, is_rising, highest_hart, next_hart, Sums}
+use Rattle.pl_event.specs.Edges.{some_number}
+use Rattle.log_grammar.specs.Arcs.{arcs_in, rises_from, is_rising, highest_hart, next_hart, Sums}
 use Rattle.log_grammar.specs.Spelling.{points_from}
 
 -- two tests that imply each other give one answer
@@ -122,7 +123,7 @@ pub any_past : (harts : ℕ) (points : List Point) → 1 ≤ harts → leb harts
 any_past harts points some = any_past_from harts 0 points ∙ rw (lt-leb harts 0 (omega arith)) refl
 
 -- the arcs from a hart on, where that hart has one and where it has none
-points_from_some : (numbers : List ℕ) (hart : ℕ) (point : Point) → hart < length numbers → arc_of (get_or numbers hart 0) ≡ Some point.number → point.hart ≡ hart →
+points_from_some : (numbers : List ℕ) (hart : ℕ) (point : Point) → hart < length numbers → some_number (get_or numbers hart 0) ≡ Some point.number → point.hart ≡ hart →
     points_from hart (arcs_in (drop hart numbers)) ≡ point ∷ points_from (hart + 1) (arcs_in (drop (hart + 1) numbers))
 points_from_some numbers hart point within there same =
     let next : suc hart ≡ hart + 1 = omega arith in
@@ -131,7 +132,7 @@ points_from_some numbers hart point within there same =
     ∙ ap (λ (h : ℕ). record { hart = h; number = point.number } ∷ points_from (suc hart) (arcs_in (drop (hart + 1) numbers))) (sym same)
     ∙ ap (λ (n : ℕ). point ∷ points_from n (arcs_in (drop (hart + 1) numbers))) next
 
-points_from_next : (numbers : List ℕ) (hart : ℕ) → hart < length numbers → arc_of (get_or numbers hart 0) ≡ None →
+points_from_next : (numbers : List ℕ) (hart : ℕ) → hart < length numbers → some_number (get_or numbers hart 0) ≡ None →
     points_from hart (arcs_in (drop hart numbers)) ≡ points_from (hart + 1) (arcs_in (drop (hart + 1) numbers))
 points_from_next numbers hart within there =
     let next : suc hart ≡ hart + 1 = omega arith in
@@ -141,11 +142,11 @@ points_from_next numbers hart within there =
 
 -- one hart more, in a look for an arc that fails
 pub any_from : (test : Point → Bool) (numbers : List ℕ) (hart : ℕ) (bad : Bool) → hart < length numbers →
-    ((number : ℕ) → arc_of (get_or numbers hart 0) ≡ Some number → bad ≡ test (record { hart = hart; number = number })) → (arc_of (get_or numbers hart 0) ≡ None → bad ≡ false) →
+    ((number : ℕ) → some_number (get_or numbers hart 0) ≡ Some number → bad ≡ test (record { hart = hart; number = number })) → (some_number (get_or numbers hart 0) ≡ None → bad ≡ false) →
     list_any test (points_from hart (arcs_in (drop hart numbers))) ≡ (bad || list_any test (points_from (hart + 1) (arcs_in (drop (hart + 1) numbers))))
-any_from test numbers hart bad within some none = by_arc (arc_of (get_or numbers hart 0)) refl
+any_from test numbers hart bad within some none = by_arc (some_number (get_or numbers hart 0)) refl
   where
-    by_arc : (arc : Option ℕ) → arc_of (get_or numbers hart 0) ≡ arc →
+    by_arc : (arc : Option ℕ) → some_number (get_or numbers hart 0) ≡ arc →
         list_any test (points_from hart (arcs_in (drop hart numbers))) ≡ (bad || list_any test (points_from (hart + 1) (arcs_in (drop (hart + 1) numbers))))
     by_arc None at = rw (none at) (ap (list_any test) (points_from_next numbers hart within at))
     by_arc (Some number) at =
@@ -155,11 +156,11 @@ pub any_from_end : (test : Point → Bool) (numbers : List ℕ) (hart : ℕ) →
 any_from_end test numbers hart past = ap (λ (l : List ℕ). list_any test (points_from hart (arcs_in l))) (drop_all hart numbers past)
 
 -- arcs are known by the numbers of the eight harts
-pub same_arcs : (arcs : List (Option ℕ)) (numbers : List ℕ) → length arcs ≡ 8 → length numbers ≡ 8 → ((k : ℕ) → k < 8 → get_or arcs k None ≡ arc_of (get_or numbers k 0)) → arcs ≡ arcs_in numbers
+pub same_arcs : (arcs : List (Option ℕ)) (numbers : List ℕ) → length arcs ≡ 8 → length numbers ≡ 8 → ((k : ℕ) → k < 8 → get_or arcs k None ≡ some_number (get_or numbers k 0)) → arcs ≡ arcs_in numbers
 same_arcs arcs numbers eight long each =
-    ext_get_or None arcs (arcs_in numbers) (eight ∙ sym (length-map numbers arc_of ∙ long)) (λ k within. each k (omega arith) ∙ sym (get_or-map k numbers (omega arith)))
+    ext_get_or None arcs (arcs_in numbers) (eight ∙ sym (length-map numbers some_number ∙ long)) (λ k within. each k (omega arith) ∙ sym (get_or-map k numbers (omega arith)))
   where
-    get_or-map : (k : ℕ) (list : List ℕ) → k < length list → get_or (arcs_in list) k None ≡ arc_of (get_or list k 0)
+    get_or-map : (k : ℕ) (list : List ℕ) → k < length list → get_or (arcs_in list) k None ≡ some_number (get_or list k 0)
     get_or-map k [] within = absurd (omega arith)
     get_or-map zero (number ∷ list) within = refl
     get_or-map (suc k) (number ∷ list) within = get_or-map k list (omega arith)

@@ -1,6 +1,7 @@
 -- The arcs of a line as they are read: no list of them is kept.
-use Rattle.std.specs.Prelude.{◌≡◌, ℕ, suc, ◌<◌, ◌≤◌, max, ◌&&◌, zero, Bool, true, false, nat_le, List, [], ◌∷◌, length, map, fold, Option, Some, None, slice_index_or}
+use Rattle.std.specs.Prelude.{◌≡◌, ℕ, suc, ◌<◌, ◌≤◌, max, ◌&&◌, Bool, true, nat_le, List, [], ◌∷◌, length, map, fold, Option, None, slice_index_or}
 use Rattle.pl_event.specs.declared.log.Point.{Point}
+use Rattle.pl_event.specs.Edges.{some_number}
 use Rattle.log_grammar.specs.declared.points.ArcList.{ArcList}
 use Rattle.log_grammar.specs.Spelling.{points_from}
 
@@ -20,13 +21,9 @@ highest_hart points = fold (λ high point. max high point.hart) 0 points
 abbrev pub next_hart : List Point → ℕ
 next_hart points = fold (λ least point. suc point.hart) 0 points
 
--- the arc that a number stands for, which is 0 where there is none
-abbrev pub arc_of : ℕ → Option ℕ
-arc_of zero = None
-arc_of (suc n) = Some (suc n)
-
+-- the arcs that numbers stand for, where 0 stands for none
 abbrev pub arcs_in : List ℕ → List (Option ℕ)
-arcs_in numbers = map arc_of numbers
+arcs_in numbers = map some_number numbers
 
 -- a summary of arcs: the harts that they name, whether they rise, and the arcs themselves where they do
 pub record Sums (list : ArcList) (points : List Point) : Type 0 where

@@ -1,8 +1,7 @@
 //! The arcs of a line, gathered as they are read.
 ghost use Rattle.std.specs.Prelude.{◌≡◌, ◌++◌, ◌∷◌, [], ◌≤◌};
-ghost use Rattle.log_grammar.specs.Arcs.{arc_of as arc_of_number};
 
-use pl_event::{Arcs, Point};
+use pl_event::{Arcs, Point, some_number};
 
 /// The arcs of a line as they were read, and what the rules ask of them.
 #[derive(Clone, Copy)]
@@ -42,7 +41,7 @@ impl ArcList {
     {
         let mut arcs = Arcs::none();
         'harts: for hart in 0..8u8 {
-            arcs.set(hart, arc_of(self.numbers[usize::from(hart)]));
+            arcs.set(hart, some_number(self.numbers[usize::from(hart)]));
         }
         arcs
     }
@@ -62,11 +61,4 @@ impl ArcList {
             self.numbers[usize::from(hart)] = point.number;
         }
     }
-}
-
-/// The arc that a number of the list stands for.
-fn arc_of(number: u32) -> Option<u32>
-    ensures { result ≡ arc_of_number number }
-{
-    if number == 0 { None } else { Some(number) }
 }

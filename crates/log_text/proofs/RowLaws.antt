@@ -16,7 +16,8 @@ use Rattle.log_text.specs.declared.cause.LogCause.TheVariants.{Page, Records, Ha
 use Rattle.log_text.specs.declared.cause.LogRefused.{LogRefused}
 use Rattle.std.proofs.lemmas.List.{length-map}
 use Rattle.log_grammar.specs.declared.points.ArcList.{ArcList}
-use Rattle.log_grammar.specs.Arcs.{ShowsPoints, arc_of, is_rising, highest_hart}
+use Rattle.pl_event.specs.Edges.{some_number}
+use Rattle.log_grammar.specs.Arcs.{ShowsPoints, is_rising, highest_hart}
 use Rattle.log_grammar.specs.Form.{IsInForm, IsRecordInForm, most_read}
 use Rattle.log_text.specs.Parts.{HasValidParts, IsValidLine, IsValidRecord}
 use Rattle.log_text.specs.Reading.{IsOnly, arcs_of}
@@ -92,7 +93,7 @@ arcs_kept harts before what points true list some few shows none =
 
 pub arcs_eight : (points : List Point) (has_arcs : Bool) (list : ArcList) → ShowsPoints has_arcs list points → length (arcs_of has_arcs list) ≡ 8
 arcs_eight points false list shows = refl
-arcs_eight points true list shows = length-map list.numbers arc_of ∙ shows.eight
+arcs_eight points true list shows = length-map list.numbers some_number ∙ shows.eight
 
 -- Counts
 

@@ -8,7 +8,8 @@ ghost use Rattle.pl_base.specs.Widths.{load_bytes, store_bytes};
 ghost use Rattle.pl_event.specs.declared.log.Point.{Point};
 ghost use Rattle.pl_event.specs.Alerts.{is_alert_kind};
 ghost use Rattle.pl_event.specs.Numbers.{hart_of};
-ghost use Rattle.log_grammar.specs.Arcs.{ShowsPoints, arc_of, arcs_in};
+ghost use Rattle.pl_event.specs.Edges.{some_number};
+ghost use Rattle.log_grammar.specs.Arcs.{ShowsPoints, arcs_in};
 ghost use Rattle.log_grammar.specs.Spelling.{Entry, row, page, points_from};
 ghost use Rattle.log_text.specs.Tally.{Keeps};
 ghost use Rattle.log_text.specs.WellFormed.{broken, breaks, rules_of_fields, breaks_page, breaks_records, breaks_hart, breaks_ended, breaks_arc, breaks_notice, names_past, is_waiting, is_awaited, records_in, is_bad_notice, is_notice, has_pending, on_event, is_misaligned, passes_end, is_bad_map};
@@ -193,8 +194,8 @@ fn some_arc_is_bad(arcs: &[u32; 8], own: u8, numbers: &[u32; 8]) -> bool
 /// Whether an arc from that record of a hart, of which so many have come, is bad.
 #[inline]
 fn is_arc_bad(arc: u32, is_own: bool, come: u32) -> bool
-    ensures some { (number : ℕ) → arc_of arc ≡ Some number → result ≡ (is_own || nat_lt come number) }
-    ensures none { arc_of arc ≡ None → result ≡ false }
+    ensures some { (number : ℕ) → some_number arc ≡ Some number → result ≡ (is_own || nat_lt come number) }
+    ensures none { some_number arc ≡ None → result ≡ false }
 {
     (arc != 0) & (is_own | (come < arc))
 }

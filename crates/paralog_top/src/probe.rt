@@ -27,7 +27,7 @@ use log_text::{LogEnd, LogStream, Opening};
 use memcheck::MemCheck;
 use pl_base::layout::MAX_LOG_BYTES;
 use pl_base::{NoMemory, Source};
-use replay_probes::{Boxed, Probe, Replayer};
+use replay_probes::{Probe, Replayer, in_boxes};
 use std::alloc::{AllocError, Global};
 use taintcheck::TaintCheck;
 
@@ -86,16 +86,6 @@ fn probe_boxed<S: Source>(
 {
     let boxes = in_boxes(alloc, probes)?;
     probe_named(alloc, guard, places, boxes, source)
-}
-
-fn in_boxes(alloc: Global, probes: Vec<Box<dyn Probe>>) -> Result<Vec<Boxed>, NoMemory>
-    ensures { IfOk result (λ boxes. boxes.items ≡ map (λ probe. record { probe = probe }) probes.items) }
-{
-    let mut boxes = Vec::with_capacity(alloc, probes.len())?;
-    for probe in probes {
-        boxes.push(Boxed { probe })?;
-    }
-    Ok(boxes)
 }
 
 fn probe_named<B: Probe, S: Source>(

@@ -1,5 +1,5 @@
 -- The edges between the harts of a log.
-use Rattle.std.specs.Prelude.{◌≡◌, ◌≢◌, ℕ, ◌+◌, ◌<◌, ◌≤◌, ◌⊎◌, List, Option, Some, None, replicate, slice_index_or}
+use Rattle.std.specs.Prelude.{◌≡◌, ◌≢◌, ℕ, zero, suc, ◌+◌, ◌<◌, ◌≤◌, ◌⊎◌, List, Option, Some, None, replicate, slice_index_or}
 use Rattle.pl_base.specs.declared.layout.TheConstants.{MAX_HARTS}
 use Rattle.pl_event.specs.declared.log.Line.{Line}
 use Rattle.pl_event.specs.declared.log.Record.{Record}
@@ -9,6 +9,11 @@ use Rattle.pl_event.specs.Records.{records_before, IsRecord}
 -- no record has to come before
 abbrev pub no_arcs : List (Option ℕ)
 no_arcs = replicate MAX_HARTS None
+
+-- the number of a record, where 0 stands for none
+abbrev pub some_number : ℕ → Option ℕ
+some_number zero = None
+some_number (suc n) = Some (suc n)
 
 -- the source of a line's arc in hart u
 abbrev pub arc_of : Line → ℕ → Option ℕ

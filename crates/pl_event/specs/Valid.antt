@@ -5,6 +5,8 @@ use Rattle.pl_base.specs.Widths.{load_bytes, store_bytes}
 use Rattle.pl_event.specs.declared.event.Kind.{Kind}
 use Rattle.pl_event.specs.declared.event.Kind.TheVariants.{Ld, St, Op, Mv, Im, Br, Jr, Al, Fr, Bf, Mp, Um, Rd, Wr, Ex, Ft}
 use Rattle.pl_event.specs.declared.event.Event.{Event}
+use Rattle.pl_event.specs.declared.log.Record.{Record}
+use Rattle.pl_event.specs.declared.log.Record.TheVariants as entry
 
 -- one of 32 registers, or one of the two hidden ones
 abbrev pub IsRegister : ℕ → Type 0
@@ -48,3 +50,8 @@ HasValidFields (Ft cause addr) = IsWord addr
 -- an event of a run of so many harts
 abbrev pub IsValidEvent : Event → ℕ → Type 0
 IsValidEvent event harts = (event.hart < harts) × HasValidFields event.kind
+
+-- the event of a record, if it has one, is an event of a run of so many harts
+abbrev pub HasValidEvent : ℕ → Record → Type 0
+HasValidEvent harts (entry.Event event) = IsValidEvent event harts
+HasValidEvent harts (entry.Notice hart point) = Unit {0}

@@ -28,7 +28,7 @@ pub use feds::Feds;
 pub use feeds::fed_of;
 pub use heads::Heads;
 pub use lines::Lines;
-pub use log::{Arcs, Line, Log, PageKind, PageRun, PageRuns, Point, Record};
+pub use log::{Arcs, Line, Log, PageKind, PageRun, PageRuns, Point, Record, some_number};
 pub use order::{first_unordered, grown_paths, log_paths, noticed_paths};
 pub use runs::mapped_pages;
 pub use short_logs::conflicts;

@@ -1,5 +1,6 @@
 //! Logs: lines with their records and arcs, the pages at the start, harts and the size of blocks.
 ghost use Rattle.std.specs.Prelude.{◌≡◌, ◌<◌, Some, None, replicate, slice_get};
+ghost use Rattle.pl_event.specs.Edges.{some_number};
 
 use crate::event::Event;
 use crate::lines::Lines;
@@ -66,6 +67,14 @@ impl Arcs {
     {
         self.numbers[hart as usize] = n;
     }
+}
+
+/// The number of a record, where 0 stands for none.
+#[inline(always)]
+pub fn some_number(number: u32) -> Option<u32>
+    ensures { result ≡ some_number number }
+{
+    if number == 0 { None } else { Some(number) }
 }
 
 /// A record with its arcs.

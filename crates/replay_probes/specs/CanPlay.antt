@@ -1,19 +1,12 @@
 -- Which logs can be played.
 use Rattle.std.specs.Prelude.{ℕ, ◌+◌, ◌≤◌, length, All}
 use Rattle.pl_base.specs.declared.layout.TheConstants.{PAGE_COUNT, MAX_HARTS, MAX_RECORDS}
-use Rattle.pl_event.specs.Valid.{IsValidEvent}
+use Rattle.pl_event.specs.Valid.{HasValidEvent}
 use Rattle.pl_event.specs.declared.log.Line.{Line}
 use Rattle.pl_event.specs.declared.log.Log.{Log}
-use Rattle.pl_event.specs.declared.log.Record.{Record}
-use Rattle.pl_event.specs.declared.log.Record.TheVariants as entry
-
--- an event is one of a run of so many harts; a notice is not played
-abbrev pub CanPlayRecord : ℕ → Record → Type 0
-CanPlayRecord harts (entry.Event event) = IsValidEvent event harts
-CanPlayRecord harts (entry.Notice hart point) = Unit {0}
 
 abbrev pub CanPlayLine : ℕ → Line → Type 0
-CanPlayLine harts line = CanPlayRecord harts line.what
+CanPlayLine harts line = HasValidEvent harts line.what
 
 -- at most eight harts, no page passes the last one, each event is valid, and there are at most 2,000,000 records
 pub record CanPlay (log : Log) : Type 0 where

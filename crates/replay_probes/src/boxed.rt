@@ -1,4 +1,6 @@
 //! A probe in a box.
+ghost use Rattle.std.specs.Prelude.{◌≡◌, IfOk, map};
+
 use crate::probe::{Probe, See};
 use pl_base::NoMemory;
 use pl_event::Event;
@@ -32,4 +34,15 @@ impl Probe for Boxed {
     fn finish(&self, alloc: Global) -> Result<Vec<u8>, NoMemory> {
         self.probe.finish(alloc)
     }
+}
+
+/// Each probe in a box of its own, in order.
+pub fn in_boxes(alloc: Global, probes: Vec<Box<dyn Probe>>) -> Result<Vec<Boxed>, NoMemory>
+    ensures { IfOk result (λ boxes. boxes.items ≡ map (λ probe. record { probe = probe }) probes.items) }
+{
+    let mut boxes = Vec::with_capacity(alloc, probes.len())?;
+    for probe in probes {
+        boxes.push(Boxed { probe })?;
+    }
+    Ok(boxes)
 }

@@ -16,7 +16,7 @@ mod watch;
 mod watches;
 
 pub use audience::Audience;
-pub use boxed::Boxed;
+pub use boxed::{Boxed, in_boxes};
 pub use played::replay;
 pub use probe::{Probe, See, Shown};
 pub use replayer::{Replayed, Replayer};

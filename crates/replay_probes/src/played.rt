@@ -6,11 +6,12 @@ ghost use Rattle.pl_event.specs.declared.event.Event.{Event};
 ghost use Rattle.pl_event.specs.declared.log.PageRun.{PageRun};
 ghost use Rattle.pl_event.specs.Numbers.{events_of, event_of};
 ghost use Rattle.lifeguard.specs.Shadow.{Represents, place_of};
-ghost use Rattle.replay_probes.specs.CanPlay.{CanPlay, CanPlayLine, CanPlayRecord};
+ghost use Rattle.pl_event.specs.Valid.{HasValidEvent};
+ghost use Rattle.replay_probes.specs.CanPlay.{CanPlay, CanPlayLine};
 ghost use Rattle.replay_probes.specs.Meaning.{Meaning, line_over};
 ghost use Rattle.replay_probes.specs.Plays.{Plays};
 
-use crate::boxed::Boxed;
+use crate::boxed::in_boxes;
 use crate::probe::Probe;
 use crate::replayer::{Replayed, Replayer};
 use lifeguard::Lifeguard;
@@ -42,16 +43,6 @@ pub fn replay<L: Lifeguard>(
     let replayer = play(alloc, l, log.harts, log.pages.as_slice(), &log.lines, boxes)?;
     let replayed = replayer.finish(alloc)?;
     Ok(replayed)
-}
-
-fn in_boxes(alloc: Global, probes: Vec<Box<dyn Probe>>) -> Result<Vec<Boxed>, NoMemory>
-    ensures { IfOk result (λ boxes. boxes.items ≡ map (λ probe. record { probe = probe }) probes.items) }
-{
-    let mut boxes = Vec::with_capacity(alloc, probes.len())?;
-    for probe in probes {
-        boxes.push(Boxed { probe })?;
-    }
-    Ok(boxes)
 }
 
 /// Plays the events of these lines.
@@ -87,7 +78,7 @@ fn step_record<L: Lifeguard, B: Probe>(
     replayer: &mut Replayer<L, B>,
     what: Record,
 ) -> Result<(), NoMemory>
-    requires valid { CanPlayRecord replayer.old.monitor.harts what }
+    requires valid { HasValidEvent replayer.old.monitor.harts what }
     requires room { place_of replayer.old.monitor.shadow < MAX_RECORDS }
     ensures plays { OnOk result ((pages : List PageRun) (meanings : List Meaning) (events : List Event)
         → Plays B.meaning B.has_seen (L.rules replayer.old.monitor.guard) pages meanings events

@@ -15,7 +15,7 @@ use Rattle.pl_event.specs.declared.log.Record.TheVariants as entry
 use Rattle.pl_event.specs.Numbers.{event_of, events_of}
 use Rattle.pl_event.specs.Runs.{IsRunLog, IsSoundRecord}
 use Rattle.lifeguard.specs.Shadow.{Represents}
-use Rattle.arc_capture.specs.Recorder.{IsValidRecord}
+use Rattle.pl_event.specs.Valid.{HasValidEvent}
 use Rattle.run_record.specs.declared.recording.Recording.{Recording}
 use Rattle.run_record.specs.Recording.{IsRecording}
 use Rattle.run_record.proofs.Writing.{all_eight}
@@ -68,7 +68,7 @@ module _ (harts : ℕ) (pages : List PageRun) (lines : List Line) (line : Line) 
   may_play event now is addr taint mem = record {
     has = same_played harts pages (events_of lines) old now addr taint mem may.has.played;
     few = omega (arith, may.few, few_events lines);
-    valid = subst (IsValidRecord harts) is (may.valid 0 line (omega arith));
+    valid = subst (HasValidEvent harts) is (may.valid 0 line (omega arith));
   }
 
   -- the line was counted
@@ -100,7 +100,7 @@ may_tally harts pages lines more first now i line low is may has = record {
   has = has;
   few = omega (arith, length-append lines (take i more), length-take i more, may.few, low);
   eight = All-from_recursion (λ (l : Line). length l.arcs ≡ 8) (line ∷ []) (subst (λ (l : Line). length l.arcs ≡ 8) (sym is) (may.eight i line low), tt);
-  valid = All-from_recursion (λ (l : Line). IsValidRecord harts l.what) (line ∷ []) (subst (λ (l : Line). IsValidRecord harts l.what) (sym is) (may.valid i line low), tt);
+  valid = All-from_recursion (λ (l : Line). HasValidEvent harts l.what) (line ∷ []) (subst (λ (l : Line). HasValidEvent harts l.what) (sym is) (may.valid i line low), tt);
 }
 
 pub tallied_more : (harts : ℕ) (pages : List PageRun) (lines more : List Line) (new : Tally) (i : ℕ) (line : Line) → i < length more → line ≡ get_or more i line → HasTallied harts pages ((lines ++ take i more) ++ line ∷ []) new
@@ -111,7 +111,7 @@ tallied_more harts pages lines more new i line low is has =
 
 -- ---- the lines of a recording
 
-sound_record : (harts : ℕ) (line : Line) (what : Record) → IsSoundRecord harts line.arcs what → IsValidRecord harts what
+sound_record : (harts : ℕ) (line : Line) (what : Record) → IsSoundRecord harts line.arcs what → HasValidEvent harts what
 sound_record harts line (entry.Event event) sound = sound
 sound_record harts line (entry.Notice hart point) sound = tt
 
@@ -123,13 +123,13 @@ behind P (x ∷ front) lines all = behind P front lines all.1
 pub may_tally_step : (job : Job) (front more : List Line) (recording : Recording) (log : Log) (tally : Tally) → IsRecording job (front ++ more) recording → log.lines ≡ front ++ more → log.harts ≡ job.harts → IsRunLog log → length (front ++ more) ≤ 2000000
     → HasTallied job.harts (start_runs job) front tally → MayTally job.harts (start_runs job) front more tally
 may_tally_step job front more recording log tally r same harts run few has =
-    let P : Line → Type 0 = λ line. IsValidRecord job.harts line.what in
+    let P : Line → Type 0 = λ line. HasValidEvent job.harts line.what in
     record {
       has = has;
       few = omega (arith, few, length-append front more);
       eight = all_eight job front more recording r;
       valid = All-from_recursion P more (behind P front more (recursion_from_All P (front ++ more)
-          (subst (λ (ls : List Line). All P ls) same (λ i d low. subst (λ (h : ℕ). IsValidRecord h (get_or log.lines i d).what) harts (sound_record log.harts (get_or log.lines i d) (get_or log.lines i d).what (run.sound i d low).1)))));
+          (subst (λ (ls : List Line). All P ls) same (λ i d low. subst (λ (h : ℕ). HasValidEvent h (get_or log.lines i d).what) harts (sound_record log.harts (get_or log.lines i d) (get_or log.lines i d).what (run.sound i d low).1)))));
     }
 
 -- ---- what is told

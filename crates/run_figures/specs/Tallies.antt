@@ -5,8 +5,7 @@ use Rattle.pl_event.specs.declared.event.Event.{Event}
 use Rattle.pl_event.specs.declared.log.Line.{Line}
 use Rattle.pl_event.specs.declared.log.PageRun.{PageRun}
 use Rattle.pl_event.specs.Numbers.{events_of}
-use Rattle.pl_event.specs.Valid.{IsValidEvent}
-use Rattle.arc_capture.specs.Recorder.{IsValidRecord}
+use Rattle.pl_event.specs.Valid.{HasValidEvent, IsValidEvent}
 use Rattle.lifeguard.specs.Shadow.{Represents}
 use Rattle.addrcheck.specs.AddrRules.{addr_rules}
 use Rattle.taintcheck.specs.TaintRules.{taint_rules}
@@ -42,4 +41,4 @@ pub record MayTally (harts : ℕ) (pages : List PageRun) (lines more : List Line
   pub has : HasTallied harts pages lines tally
   pub few : length lines + length more ≤ MAX_RECORDS
   pub eight : All (λ line. length line.arcs ≡ 8) more
-  pub valid : All (λ line. IsValidRecord harts line.what) more
+  pub valid : All (λ line. HasValidEvent harts line.what) more

@@ -44,11 +44,6 @@ abbrev pub stored_mask : Masks → ℕ → Kind → ℕ
 stored_mask masks hart (St width rv rb addr) = masks hart rv
 stored_mask masks hart _ = 0
 
--- an event is valid for a run of so many harts
-abbrev pub IsSoundFor : ℕ → Record → Type 0
-IsSoundFor harts (entry.Event event) = IsValidEvent event harts
-IsSoundFor harts (entry.Notice hart point) = Unit {0}
-
 -- an event is valid, and has room; a notice needs none
 abbrev pub RecordHasRoom : Rules → (ℕ → ℕ) → ℕ → Record → Type 0
 RecordHasRoom rules w harts (entry.Event event) = IsValidEvent event harts × HasRoom rules w event.kind

@@ -1,5 +1,5 @@
 -- The rows of a table of last accesses.
-use Rattle.std.specs.Prelude.{◌≡◌, ◌≢◌, ℕ, zero, suc, ◌<◌, max, Bool, true, false, List, length, replicate, Option, Some, None, slice_index, slice_index_or, if◌then◌else◌}
+use Rattle.std.specs.Prelude.{◌≡◌, ◌≢◌, ℕ, ◌<◌, max, Bool, true, false, List, length, replicate, slice_index, slice_index_or, if◌then◌else◌}
 use Rattle.pl_base.specs.declared.layout.TheConstants.{MAX_HARTS}
 use Rattle.log_clocks.specs.declared.lasts.Row.{Row}
 
@@ -17,11 +17,6 @@ row_at index rows block = slice_index_or rows (slice_index index block) zero_row
 -- the last access that a store conflicts with, or a load
 abbrev pub newest : Row → Bool → ℕ → ℕ
 newest row store u = if store then max (in_row row true u) (in_row row false u) else in_row row true u
-
--- 0 is no number of a record
-abbrev pub some_number : ℕ → Option ℕ
-some_number zero = None
-some_number (suc n) = Some (suc n)
 
 -- each block has a row of its own, or the first row, to which nothing is written
 pub record IsIndexed (index : List ℕ) (rows : List Row) : Type 0 where

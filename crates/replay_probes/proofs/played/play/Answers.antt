@@ -3,7 +3,7 @@ use Rattle.std.specs.List.{cons_option}
 use Rattle.lifeguard.specs.Rules.{Rules}
 use Rattle.pl_event.specs.declared.log.Line.{Line}
 use Rattle.pl_event.specs.Numbers.{events_of, event_of}
-use Rattle.replay_probes.specs.CanPlay.{CanPlayRecord}
+use Rattle.pl_event.specs.Valid.{HasValidEvent}
 use Rattle.replay_probes.specs.Plays.{Plays}
 use Rattle.pl_event.proofs.EventLemmas.{events-more, few_before}
 use Rattle.replay_probes.proofs.played.play.Goals as goal
@@ -14,7 +14,7 @@ step_record-requires-clause-room g c = omega (arith, c.loop-i.invariant.plays.st
 pub step_record-requires-clause-valid : goal.step_record-requires-clause-valid
 step_record-requires-clause-valid g c =
     let d : Line = record { what = c.record.result; arcs = [] } in
-    rw c.loop-i.invariant.harts (subst (CanPlayRecord c.args.harts) (sym (c.record.ensures d)) (c.requires.valid c.loop-i.i d (omega (arith, c.len-i-end.ensures, c.loop-i-test.true))))
+    rw c.loop-i.invariant.harts (subst (HasValidEvent c.args.harts) (sym (c.record.ensures d)) (c.requires.valid c.loop-i.i d (omega (arith, c.len-i-end.ensures, c.loop-i-test.true))))
 
 pub loop-i-preserved : goal.loop-i-preserved
 loop-i-preserved g c =

@@ -6,7 +6,8 @@ use Rattle.pl_event.specs.Conflicts.{access_of}
 use Rattle.pl_event.specs.Needs.{IsMost}
 use Rattle.pl_event.proofs.Before.{eight}
 use Rattle.log_clocks.specs.declared.lasts.Row.{Row}
-use Rattle.log_clocks.specs.inner.Rows.{newest, some_number}
+use Rattle.pl_event.specs.Edges.{some_number}
+use Rattle.log_clocks.specs.inner.Rows.{newest}
 use Rattle.log_clocks.proofs.Accesses.{own_none, no_candidate, candidate, no_access}
 use Rattle.log_clocks.proofs.lasts.LastAccesses.candidates.Goals as goal
 

@@ -1,5 +1,6 @@
 use Rattle.std.proofs.Common.{◌≡◌, ℕ, ◌<◌, length, slice_index_or, None}
-use Rattle.log_clocks.specs.inner.Rows.{newest, some_number}
+use Rattle.pl_event.specs.Edges.{some_number}
+use Rattle.log_clocks.specs.inner.Rows.{newest}
 use Rattle.log_clocks.proofs.lasts.Row.conflicting.Given as goal
 
 abbrev pub invariant-loop-u : goal.invariant-loop-u

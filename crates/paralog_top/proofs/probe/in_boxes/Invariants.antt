@@ -1,5 +1,0 @@
-use Rattle.std.proofs.Common.{◌≡◌, map}
-use Rattle.paralog_top.proofs.probe.in_boxes.Given as goal
-
-abbrev pub invariant-loop-probe : goal.invariant-loop-probe
-invariant-loop-probe g l = l.boxes.items ≡ map (λ probe. record { probe = probe }) l.yielded

@@ -1,5 +1,5 @@
 -- What comes before a line.
-use Rattle.std.proofs.Common.{◌≡◌, ◌≢◌, ℕ, zero, suc, ◌+◌, ◌^◌, ◌<◌, ◌≤◌, ◌⊎◌, Bool, eqb, eq-eqb, ne_eqb, if◌then◌else◌, List, [], ◌∷◌, ◌++◌, length, take, drop, filter, length-append, append-nil, zero-add, slice_get, slice_index, slice_index_or, set, get_or, get_or-set_same, get_or-set_other, Option, Some, None, refl, sym, ap, ◌∙◌, subst, inl, inr, arith}
+use Rattle.std.proofs.Common.{◌≡◌, ◌≢◌, ℕ, zero, suc, ◌+◌, ◌^◌, ◌<◌, ◌≤◌, ◌⊎◌, Bool, eqb, eq-eqb, ne_eqb, if◌then◌else◌, List, [], ◌∷◌, ◌++◌, length, take, drop, filter, length-append, append-nil, zero-add, slice_get, slice_index, slice_index_or, set, get_or, get_or-set_same, get_or-set_other, IsTrue, true, false, Option, Some, None, refl, sym, ap, ◌∙◌, subst, inl, inr, arith}
 use Rattle.std.proofs.lemmas.List.Sums.{sum_by-append, count_by-le-length}
 use Rattle.std.specs.List.{cons_option}
 use Rattle.std.specs.Option.{option_to_list}
@@ -122,8 +122,9 @@ module _ (harts : ℕ) (g : List Line) (flow : IsFlow harts g) (i h : ℕ) (l : 
       → n ≡ slice_index s.records h + 1
       → p ≡ length (events_of (take (i + 1) g))
       → ((x : ℕ) → x < 8 → slice_index es x ≡ events_on x (events_of (take (i + 1) g)))
-      → Tells (record { place = p; events = es; records = set s.records h n; «open» = set s.open h o }) g (i + 1)
-  passed s st low long_c long_o o n p es told all is placed numbered = record { place = placed; events = numbered; records = counts; told = tells; all = every }
+      → (quiet : Bool) → (IsTrue quiet → (x : ℕ) → x < 8 → slice_index_or (set s.open h o) x None ≡ None)
+      → Tells (record { place = p; events = es; records = set s.records h n; «open» = set s.open h o; quiet = quiet }) g (i + 1)
+  passed s st low long_c long_o o n p es told all is placed numbered quiet none = record { place = placed; events = numbered; records = counts; told = tells; all = every; quiet = none }
     where
       own : records_before h g (i + 1) ≡ records_before h g i + 1
       own = before_own g i h l next.at next.hart
@@ -234,6 +235,7 @@ tells_first s g first events zeros nones = record {
   records = λ h _. zeros h ∙ sym (before_none g h);
   told = λ h p e. absurd (let t : None ≡ Some p = sym (nones h) ∙ e in cc);
   all = λ h u n low note. absurd (let t : records_before h g note.0 + 1 ≡ records_before h g 0 = note.2.number in let z : records_before h g 0 ≡ 0 = before_none g h in omega arith);
+  quiet = λ _ h _. nones h;
 }
 
 -- how many events the first lines have, and how many of a hart
@@ -289,13 +291,22 @@ fed_event g i l s st at low e is r own needs need = λ d. record { place = place
 -- an event is passed
 pub pass_event : (harts : ℕ) (g : List Line) → IsFlow harts g → (i : ℕ) (l : Line) → IsNext g i (hart_of l.what) l → (s : Heads) → Tells s g i → hart_of l.what < 8 → length s.events ≡ 8 → length s.records ≡ 8 → length s.open ≡ 8
     → (e : Event) → l.what ≡ entry.Event e → (r : ℕ) → r ≡ hart_of l.what
-    → Tells (record { place = s.place + 1; events = set s.events r (slice_index s.events r + 1); records = set s.records r (slice_index s.records r + 1); «open» = set s.open r None }) g (i + 1)
-pass_event harts g flow i l next s st low long_e long_r long_o e is r own =
-    subst (λ (z : ℕ). Tells (record { place = s.place + 1; events = set s.events z (slice_index s.events z + 1); records = set s.records z (slice_index s.records z + 1); «open» = set s.open z None }) g (i + 1)) (sym own)
-    (passed harts g flow i (hart_of l.what) l next s st low long_r long_o None (slice_index s.records (hart_of l.what) + 1) (s.place + 1) (set s.events (hart_of l.what) (slice_index s.events (hart_of l.what) + 1)) told all refl placed numbers)
+    → (quiet : Bool) → (IsTrue quiet → IsTrue s.quiet ⊎ ((x : ℕ) → x < 8 → slice_index_or (set s.open r None) x None ≡ None))
+    → Tells (record { place = s.place + 1; events = set s.events r (slice_index s.events r + 1); records = set s.records r (slice_index s.records r + 1); «open» = set s.open r None; quiet = quiet }) g (i + 1)
+pass_event harts g flow i l next s st low long_e long_r long_o e is r own quiet none =
+    subst (λ (z : ℕ). Tells (record { place = s.place + 1; events = set s.events z (slice_index s.events z + 1); records = set s.records z (slice_index s.records z + 1); «open» = set s.open z None; quiet = quiet }) g (i + 1)) (sym own)
+    (passed harts g flow i (hart_of l.what) l next s st low long_r long_o None (slice_index s.records (hart_of l.what) + 1) (s.place + 1) (set s.events (hart_of l.what) (slice_index s.events (hart_of l.what) + 1)) told all refl placed numbers quiet still)
   where
     he : hart_of l.what ≡ e.hart
     he = ap hart_of is
+
+    still : IsTrue quiet → (x : ℕ) → x < 8 → slice_index_or (set s.open (hart_of l.what) None) x None ≡ None
+    still q x lx = elim (none q) [
+      | inl old ↦ dite (ℕ_discrete x (hart_of l.what))
+          (λ same. ap (λ (z : ℕ). get_or (set s.open (hart_of l.what) None) z None) same ∙ get_or-set_same s.open (hart_of l.what) None None (omega arith))
+          (λ ne. get_or-set_other s.open (hart_of l.what) x None None ne ∙ st.quiet old x lx)
+      | inr new ↦ subst (λ (z : ℕ). slice_index_or (set s.open z None) x None ≡ None) own (new x lx)
+    ]
 
     told : (q : Point) → None ≡ some_point q → l.what ≡ notice_of (hart_of l.what) q.hart q.number
     told q t = absurd (cc)
@@ -313,10 +324,10 @@ pass_event harts g flow i l next s st low long_e long_r long_o e is r own =
 -- a notice is passed
 pub pass_notice : (harts : ℕ) (g : List Line) → IsFlow harts g → (i : ℕ) (l : Line) → IsNext g i (hart_of l.what) l → (s : Heads) → Tells s g i → hart_of l.what < 8 → length s.records ≡ 8 → length s.open ≡ 8
     → (h : ℕ) (p : Point) → l.what ≡ entry.Notice h p → (r : ℕ) → r ≡ hart_of l.what
-    → Tells (record { place = s.place; events = s.events; records = set s.records r (slice_index s.records r + 1); «open» = set s.open r (Some p) }) g (i + 1)
+    → Tells (record { place = s.place; events = s.events; records = set s.records r (slice_index s.records r + 1); «open» = set s.open r (Some p); quiet = false }) g (i + 1)
 pass_notice harts g flow i l next s st low long_r long_o h p is r own =
-    subst (λ (z : ℕ). Tells (record { place = s.place; events = s.events; records = set s.records z (slice_index s.records z + 1); «open» = set s.open z (Some p) }) g (i + 1)) (sym own)
-    (passed harts g flow i (hart_of l.what) l next s st low long_r long_o (Some p) (slice_index s.records (hart_of l.what) + 1) s.place s.events told all refl placed numbers)
+    subst (λ (z : ℕ). Tells (record { place = s.place; events = s.events; records = set s.records z (slice_index s.records z + 1); «open» = set s.open z (Some p); quiet = false }) g (i + 1)) (sym own)
+    (passed harts g flow i (hart_of l.what) l next s st low long_r long_o (Some p) (slice_index s.records (hart_of l.what) + 1) s.place s.events told all refl placed numbers false (λ t. absurd (let e : false ≡ true = t in cc)))
   where
     hh : h ≡ hart_of l.what
     hh = sym (ap hart_of is)

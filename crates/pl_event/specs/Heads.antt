@@ -1,5 +1,5 @@
 -- How far the harts of a log are before a line.
-use Rattle.std.specs.Prelude.{◌≡◌, ℕ, ◌+◌, ◌<◌, List, length, take, slice_index, slice_index_or, Some, None}
+use Rattle.std.specs.Prelude.{◌≡◌, ℕ, ◌+◌, ◌<◌, List, length, take, slice_index, slice_index_or, IsTrue, Some, None}
 use Rattle.pl_event.specs.declared.heads.Heads.{Heads}
 use Rattle.pl_event.specs.declared.log.Line.{Line}
 use Rattle.pl_event.specs.declared.log.Point.{Point}
@@ -20,3 +20,4 @@ pub record Tells (heads : Heads) (lines : List Line) (i : ℕ) : Type 0 where
       IsNotice lines h (records_before h lines i) p.hart p.number
   pub all : (h u n : ℕ) → h < 8 → IsNotice lines h (records_before h lines i) u n →
       (p : Point) × (slice_index_or heads.open h None ≡ Some p) × (p.hart ≡ u) × (p.number ≡ n)
+  pub quiet : IsTrue heads.quiet → (h : ℕ) → h < 8 → slice_index_or heads.open h None ≡ None

@@ -1,5 +1,5 @@
 //! How far each hart of a log is, line by line.
-ghost use Rattle.std.specs.Prelude.{◌≡◌, ◌↔◌, ℕ, ◌+◌, ◌^◌, ◌<◌, ◌⊎◌, List, slice_index, IsTrue, false};
+ghost use Rattle.std.specs.Prelude.{◌≡◌, ◌↔◌, ℕ, ◌+◌, ◌^◌, ◌<◌, ◌⊎◌, List, slice_index, slice_index_or, slice_set, IsTrue, None, false};
 ghost use Rattle.pl_event.specs.declared.log.Line.{Line};
 ghost use Rattle.pl_event.specs.Conflicts.{HasNotice};
 ghost use Rattle.pl_event.specs.Numbers.{hart_of};
@@ -23,6 +23,8 @@ pub struct Heads {
     events: [u32; 8],
     records: [u32; 8],
     open: [Option<Point>; 8],
+    // where true, no hart's last record is a notice
+    quiet: bool,
 }
 
 // The greater of two numbers that may be missing.
@@ -50,6 +52,7 @@ impl Heads {
             events: [0; 8],
             records: [0; 8],
             open: [None; 8],
+            quiet: true,
         }
     }
 
@@ -118,6 +121,9 @@ impl Heads {
             (IsNotice lines u n hart (records_before hart lines i + 1)
             ⊎ IsAfter lines u n hart (records_before hart lines i + 1)) }
     {
+        if self.quiet {
+            return true;
+        }
         for u in 0..8u8 {
             if self.notice(hart, u).is_some() {
                 return false;
@@ -209,6 +215,33 @@ impl Heads {
         }
     }
 
+    // Whether no hart's last record is a notice.
+    fn has_none_open(&self) -> bool
+        ensures { IsTrue result → (u : ℕ) → u < 8 → slice_index_or self.now.open u None ≡ None }
+    {
+        for u in 0..8u8 {
+            if self.open[u as usize].is_some() {
+                return false;
+            }
+        }
+        true
+    }
+
+    // The last record of this hart is an event.
+    #[inline(always)]
+    fn close(&mut self, hart: u8)
+        requires { hart < 8 }
+        ensures closed { self.new ≡ record self.old { «open» = slice_set self.old.open hart None; quiet = self.new.quiet } }
+        ensures quiet { IsTrue self.new.quiet →
+            IsTrue self.old.quiet ⊎ ((u : ℕ) → u < 8 → slice_index_or self.new.open u None ≡ None) }
+    {
+        let was_open = self.open[hart as usize].is_some();
+        self.open[hart as usize] = None;
+        if was_open {
+            self.quiet = self.has_none_open();
+        }
+    }
+
     /// Takes the next line.
     #[inline(always)]
     pub fn pass(&mut self, line: &Line)
@@ -220,16 +253,18 @@ impl Heads {
             IsFlow harts lines → Tells self.old lines i → IsNext lines i (hart_of line.now.what) line.now →
             Tells self.new lines (i + 1) }
     {
-        let hart = record_hart(&line.what) as usize;
-        self.records[hart] += 1;
+        let hart = record_hart(&line.what);
+        let at = hart as usize;
+        self.records[at] += 1;
         match line.what {
             Record::Event(_) => {
                 self.place += 1;
-                self.events[hart] += 1;
-                self.open[hart] = None;
+                self.events[at] += 1;
+                self.close(hart);
             }
             Record::Notice { hart: _, of } => {
-                self.open[hart] = Some(of);
+                self.open[at] = Some(of);
+                self.quiet = false;
             }
         }
     }

@@ -1,9 +1,7 @@
 use Rattle.std.proofs.Common.{◌≡◌, ◌∙◌, ℕ, ◌+◌, ◌++◌, ◌∷◌, [], List, Option, arith, ap}
 use Rattle.pl_event.specs.declared.lines.Row.{Row}
 use Rattle.pl_event.specs.declared.log.Line.{Line}
-use Rattle.pl_event.specs.declared.log.Record.{Record}
 use Rattle.pl_event.specs.Edges.{no_arcs}
-use Rattle.pl_event.specs.inner.Rows.{lines_from}
 use Rattle.pl_event.proofs.RowLemmas.{rows-push, slot_is}
 use Rattle.pl_event.proofs.lines.Lines.push.Goals as goal
 

@@ -11,8 +11,7 @@ use Rattle.pl_event.specs.Numbers.{hart_of}
 use Rattle.pl_event.specs.Records.{records_before}
 use Rattle.pl_event.proofs.Before.{room}
 use Rattle.pl_event.proofs.Places.{before_most}
-use Rattle.log_clocks.specs.declared.clock.Clock.{Clock}
-use Rattle.log_clocks.specs.Clocks.{slots, time, HasClocks}
+use Rattle.log_clocks.specs.Clocks.{slots, HasClocks}
 use Rattle.log_clocks.proofs.Grown.{at_end, before_same, tells_on, clocks_on}
 use Rattle.arc_reduce.specs.declared.reducer.Reducer.{Reducer}
 use Rattle.arc_reduce.specs.Reduction.{IsSpare, IsChosen}
@@ -80,16 +79,16 @@ module _ (r : Reducer) (full : List Line) (line : Line) (candidates : List (Opti
     pub flow_but : IsFlow r.harts (full ++ y ∷ [])
     flow_but = flow_without full x y refl u n has none others r.harts may.flow
 
-    module _ (h : ℕ) (own : h ≡ hart_of line.what) (clock : Clock) (clocks : IsClock (Into (full ++ y ∷ [])) h (records_before h (full ++ y ∷ []) (length full) + 1) (time clock)) where
-      here : IsClock (Into (full ++ y ∷ [])) (hart_of line.what) (next_number full line) (time clock)
-      here = subst (λ (z : ℕ × ℕ). IsClock (Into (full ++ y ∷ [])) z.0 z.1 (time clock)) (λ d. (own d, number_is arcs flow_but h own d)) clocks
+    module _ (h : ℕ) (own : h ≡ hart_of line.what) (clock : ℕ → ℕ) (clocks : IsClock (Into (full ++ y ∷ [])) h (records_before h (full ++ y ∷ []) (length full) + 1) clock) where
+      here : IsClock (Into (full ++ y ∷ [])) (hart_of line.what) (next_number full line) clock
+      here = subst (λ (z : ℕ × ℕ). IsClock (Into (full ++ y ∷ [])) z.0 z.1 clock) (λ d. (own d, number_is arcs flow_but h own d)) clocks
 
-      pub is_spare_by : n ≤ time clock u → IsSpare F u n h (next_number full line)
-      is_spare_by l = subst (λ (z : ℕ). IsSpare F u n z (next_number full line)) (sym own) (known_spare full x y refl u n has none others r.harts may.flow (time clock) here l)
+      pub is_spare_by : n ≤ clock u → IsSpare F u n h (next_number full line)
+      is_spare_by l = subst (λ (z : ℕ). IsSpare F u n z (next_number full line)) (sym own) (known_spare full x y refl u n has none others r.harts may.flow clock here l)
 
-      pub is_not_spare_by : time clock u < n → IsSpare F u n h (next_number full line) → ⊥
+      pub is_not_spare_by : clock u < n → IsSpare F u n h (next_number full line) → ⊥
       is_not_spare_by l p =
-          let k : n ≤ time clock u = spare_known full x y refl u n has none others r.harts may.flow (time clock) here (subst (λ (z : ℕ). IsSpare F u n z (next_number full line)) own p) in
+          let k : n ≤ clock u = spare_known full x y refl u n has none others r.harts may.flow clock here (subst (λ (z : ℕ). IsSpare F u n z (next_number full line)) own p) in
           omega arith
 
   -- beyond the harts of the run there is no candidate

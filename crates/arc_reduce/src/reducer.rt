@@ -52,7 +52,7 @@ impl Reducer {
             arcs,
         };
         let needs = self.heads.needs(&others, hart);
-        self.clocks.next_clock(hart, &needs).get(u) >= number
+        self.clocks.next_entry(hart, &needs, u) >= number
     }
 
     // The candidate of the next line from hart u, if it is not spare.

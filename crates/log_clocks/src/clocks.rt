@@ -157,20 +157,51 @@ impl Clocks {
         Ok(())
     }
 
-    /// The clock of the next record, of this hart, which needs these records of other harts.
-    pub fn next_clock(&self, hart: u8, needs: &Arcs) -> Clock
+    // The number that a clock that is kept has for hart u.
+    #[inline(always)]
+    fn entry_in(&self, slot: u32, u: u8) -> u32
+        requires { u < 8 }
+        ensures { result ≡ time (kept_at self.now slot) u }
+    {
+        self.clock_in(slot).get(u)
+    }
+
+    // The number that the clock of a record has for hart u.
+    #[inline(always)]
+    fn entry(&self, hart: u8, number: u32, u: u8) -> u32
         requires hart { hart < 8 }
+        requires u { u < 8 }
+        ensures { result ≡ known self.now hart number u }
+    {
+        if number == 0 {
+            return 0;
+        }
+        if u == hart {
+            return number;
+        }
+        self.entry_in(self.slot(hart, number), u)
+    }
+
+    /// The number that the clock of the next record, of this hart, has for hart u, where the record needs these records of
+    /// other harts.
+    pub fn next_entry(&self, hart: u8, needs: &Arcs, u: u8) -> u32
+        requires hart { hart < 8 }
+        requires u { u < 8 }
         requires few { length (slots self.now hart) + 1 < 2 ^ 32 }
         ensures { (harts : ℕ) (lines : List Line) (i : ℕ) (line : Line) →
             IsFlow harts lines → harts ≤ 8 → HasClocks self.now lines i → IsNext lines i hart line →
             needs.now ≡ needs_of lines hart (records_before hart lines i + 1) →
-            IsClock (Into lines) hart (records_before hart lines i + 1) (time result) }
+            (clock : ℕ → ℕ) × IsClock (Into lines) hart (records_before hart lines i + 1) clock × (result ≡ clock u) }
     {
         let number = self.count(hart) as u32;
         let last = self.slot(hart, number);
-        let (mut clock, _) = self.joined(self.clock_in(last), needs);
-        clock.set(hart, number + 1);
-        clock
+        let mut entry = self.entry_in(last, u);
+        for w in 0..8u8 {
+            if let Some(needed) = needs.get(w) {
+                entry = entry.max(self.entry(w, needed, u));
+            }
+        }
+        if u == hart { number + 1 } else { entry }
     }
 
     /// Takes the next record, of this hart, which needs no record of another hart, and gives its clock.

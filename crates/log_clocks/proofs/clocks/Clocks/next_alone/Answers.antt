@@ -1,10 +1,10 @@
-use Rattle.std.proofs.Common.{◌≡◌, ℕ, ◌+◌, ◌<◌, ◌≤◌, List, [], ◌∷◌, ◌++◌, Option, None, Some, Vec, Global, take, length, refl, sym, ap, ◌∙◌, subst, arith}
+use Rattle.std.proofs.Common.{◌≡◌, ℕ, ◌+◌, ◌<◌, ◌≤◌, List, Option, None, Some, Vec, Global, take, length, sym, ap, ◌∙◌, subst, arith}
 use Rattle.pl_event.specs.Edges.{Into, no_arcs}
 use Rattle.pl_event.specs.Graph.{IsClock}
 use Rattle.pl_event.specs.Records.{records_before}
 use Rattle.pl_event.proofs.Before.{eight}
 use Rattle.log_clocks.specs.declared.clock.Clock.{Clock}
-use Rattle.log_clocks.specs.Clocks.{time, slots, slots_in, slot_of, clock_at, kept_at, known}
+use Rattle.log_clocks.specs.Clocks.{time, slot_of, clock_at, kept_at, known}
 use Rattle.log_clocks.specs.inner.Joins.{IsJoin}
 use Rattle.log_clocks.proofs.Joining.{join_alone}
 use Rattle.log_clocks.proofs.RecordClocks.{clock_here}

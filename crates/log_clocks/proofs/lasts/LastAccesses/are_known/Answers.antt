@@ -1,11 +1,9 @@
-use Rattle.std.proofs.Common.{◌≡◌, ℕ, ◌/◌, ◌<◌, ◌≤◌, true, false, Some, ap, sym, ◌∙◌, subst}
+use Rattle.std.proofs.Common.{◌≡◌, ℕ, ◌/◌, true, false, Some, ap, sym, ◌∙◌, subst}
 use mathlib.Core.Logic.{dite}
 use native.Mathlib.Decide.{ℕ_discrete}
 use Rattle.pl_event.specs.Candidates.{Shares}
 use Rattle.pl_event.specs.Conflicts.{access_of}
-use Rattle.log_clocks.specs.declared.lasts.Row.{Row}
 use Rattle.log_clocks.specs.Clocks.{time}
-use Rattle.log_clocks.specs.inner.Rows.{newest}
 use Rattle.log_clocks.proofs.Accesses.{own_none, no_candidate, no_access, all_known, one_unknown}
 use Rattle.log_clocks.proofs.lasts.LastAccesses.are_known.Goals as goal
 

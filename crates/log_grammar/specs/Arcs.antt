@@ -1,5 +1,5 @@
 -- The arcs of a line as they are read: no list of them is kept.
-use Rattle.std.specs.Prelude.{◌≡◌, ℕ, suc, ◌<◌, ◌≤◌, max, ◌&&◌, Bool, true, nat_le, List, [], ◌∷◌, length, map, fold, Option, None, slice_index_or}
+use Rattle.std.specs.Prelude.{◌≡◌, ℕ, suc, ◌<◌, ◌≤◌, max, ◌&&◌, Bool, true, false, nat_le, List, [], ◌∷◌, length, map, fold, Option, None, slice_index_or}
 use Rattle.pl_event.specs.declared.log.Point.{Point}
 use Rattle.pl_event.specs.Edges.{some_number}
 use Rattle.log_grammar.specs.declared.points.ArcList.{ArcList}

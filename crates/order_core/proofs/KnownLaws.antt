@@ -1,5 +1,5 @@
 -- The laws of the core, at a plan that is known to be lawful.
-use Rattle.std.proofs.Common.{◌≡◌, ◌≢◌, ℕ, ◌≤◌, ◌⊎◌, List, take, inl, inr}
+use Rattle.std.proofs.Common.{◌≡◌, ◌≢◌, ℕ, ◌+◌, ◌^◌, ◌<◌, ◌≤◌, ◌⊎◌, List, length, take, Some, inl, inr, arith}
 use Rattle.std.proofs.Math.Logic.{∥∥₁_elim}
 use denote.Struct.Props.{props}
 use mathlib.Core.Logic.{dite}
@@ -12,9 +12,14 @@ use Rattle.order_core.specs.Lanes.{Lands}
 use Rattle.order_core.specs.Lawful.{IsLawful, IsTable}
 use Rattle.order_core.specs.Core.{Core, IsPassed, IsConsistent, IsNextWrite, IsFinished, opening_core, after_write, after_advertise, after_see}
 use Rattle.order_core.specs.Runs.{IsReached, Makes, LeavesRead, StaysOpen}
+use Rattle.order_core.specs.FedCore.{FedCore, opening_fed, hart_at, FedMakes, IsFedReached}
+use Rattle.order_core.specs.Feeds.{IsFedConsistent, HasFedMove}
+use Rattle.order_core.specs.declared.fed_step.FedStep.{FedStep}
 use Rattle.order_core.specs.Freed.{HasEnded, after_free}
 use Rattle.order_core.specs.Outcomes.{ReadsAreSequential}
 use Rattle.order_core.specs.Guarantees.{ReadsFindValues, WritesFindLanes, ReadsStayOpen, HasLastWords, HasMove, HasFewMoves}
+use Rattle.order_core.proofs.FedProgress as fed
+use Rattle.order_core.proofs.FeedLemmas as feeds
 use Rattle.order_core.proofs.FreedLemmas as freed
 use Rattle.order_core.proofs.Keeps as keeps
 use Rattle.order_core.proofs.Whole as whole
@@ -78,3 +83,23 @@ module _ (c : Course) (law : ∥ IsLawful c ∥₁) where
 
   pub reads_are_sequential : (steps : List CoreStep) → ReadsAreSequential c steps
   reads_are_sequential steps i s k there r p a is may = read_finds k (consistent (take i steps) k r) s.hart p a may
+
+  pub line_hart_low : (n h : ℕ) → hart_at c.log.lines n ≡ Some h → h < 8
+  line_hart_low n h e = ∥∥₁_elim law (hlevel props) (λ (l : IsLawful c).
+      let low : h < c.log.harts = feeds.hart_low c l n h e in let eight : c.log.harts ≤ 8 = l.log.opening.few in omega arith)
+
+  pub line_few : (n h : ℕ) → hart_at c.log.lines n ≡ Some h → n + 1 < 2 ^ 32
+  line_few n h e = ∥∥₁_elim law (hlevel props) (λ (l : IsLawful c).
+      let low : n < length c.log.lines = feeds.line_low c n h e in let few : length c.log.lines < 4294967295 = l.few in omega arith)
+
+  pub opens_fed : IsFedConsistent c (opening_fed c)
+  opens_fed = ∥∥₁_elim law (hlevel props) (λ (l : IsLawful c). feeds.opens_fed c l)
+
+  pub fed_step : (f : FedCore) (s : FedStep) (f' : FedCore) → IsFedConsistent c f → FedMakes c f s f' → IsFedConsistent c f'
+  fed_step f s f' st m = ∥∥₁_elim law (hlevel props) (λ (l : IsLawful c). feeds.fed_step c l f s f' st m)
+
+  pub fed_consistent : (steps : List FedStep) (f : FedCore) → IsFedReached c steps f → IsFedConsistent c f
+  fed_consistent steps f r = ∥∥₁_elim law (hlevel props) (λ (l : IsLawful c). feeds.reached_fed c l steps f r)
+
+  pub fed_moves : (f : FedCore) → IsFedConsistent c f → (IsFinished c f.core → ⊥) → ∥ HasFedMove c f ∥₁
+  fed_moves f st unfinished = ∥∥₁_elim law (hlevel props) (λ (l : IsLawful c). ∣ fed.fed_moves c l f st unfinished ∣₁)

@@ -1,5 +1,9 @@
 pub mod Bound
 pub mod Counts
+pub mod FedProgress
+pub mod FedRuns
+pub mod FeedLemmas
+pub mod FeedStates
 pub mod FilledLemmas
 pub mod Flatten
 pub mod FreedLemmas
@@ -7,6 +11,7 @@ pub mod HartLemmas
 pub mod Keeps
 pub mod Known
 pub mod KnownLaws
+pub mod LineHarts
 pub mod ListLemmas
 pub mod MoveLemmas
 pub mod Named

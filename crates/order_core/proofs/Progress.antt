@@ -23,11 +23,11 @@ use Rattle.order_core.proofs.Ranks.{eqb_is, is_write, rank_lt}
 abbrev bit : Bool → ℕ
 bit b = if b then 1 else 0
 
--- a step that changes the state
-pub data Mover (c : Course) (k : Core) : Type 0 where
-  sees_more : (h u : ℕ) → h < c.log.harts → u < c.log.harts → u ≢ h → k.seen h u < k.progress u → Mover c k
-  tells_more : (h m : ℕ) → h < c.log.harts → k.progress h < m → IsPassed c (k.written h) (k.seen h) h m → Mover c k
-  writes_more : (h p : ℕ) (a : Operation) → MayWrite c h (k.written h) (k.seen h) p a → Mover c k
+-- a step of hart h that changes the state, for no record above m
+pub data Mover (c : Course) (k : Core) (h m : ℕ) : Type 0 where
+  sees_more : (u : ℕ) → h < c.log.harts → u < c.log.harts → u ≢ h → k.seen h u < k.progress u → Mover c k h m
+  tells_more : h < c.log.harts → k.progress h < m → IsPassed c (k.written h) (k.seen h) h m → Mover c k h m
+  writes_more : (p : ℕ) (a : Operation) → MayWrite c h (k.written h) (k.seen h) p a → a.number ≤ m → Mover c k h m
 
 -- a list is searched for an element with a fact of it and of its place, where the first is at place k
 module _ {A : Type 0} (P Q : ℕ → A → Type 0) where
@@ -113,10 +113,10 @@ module _ (c : Course) (law : IsLawful c) where
 
   module _ (k : Core) (st : IsConsistent c k) where
     -- the records at the first i positions are advertised
-    abbrev Told : ℕ → Type 0
+    abbrev pub Told : ℕ → Type 0
     Told i = (j h m : ℕ) (l : Line) → j < i → IsRecord g j h m l → m ≤ k.progress h
 
-    told_before : (i u n : ℕ) → Told i → n ≤ records_before u g i → n ≤ k.progress u
+    pub told_before : (i u n : ℕ) → Told i → n ≤ records_before u g i → n ≤ k.progress u
     told_before i u zero told l = omega arith
     told_before i u (suc n) told l = let t = record_at g i u (suc n) (omega arith) l in told t.0 u (suc n) t.1 t.2 t.3
 
@@ -175,9 +175,9 @@ module _ (c : Course) (law : IsLawful c) where
           by false e own le l = inl (λ _ w _. absurd (let f : true ≡ false = sym w ∙ e in cc))
 
       -- the first write that is not performed may be performed
-      first_due : IsMet c (k.seen h) h m → (p : ℕ) (a : Operation) → At c p a → Due p a → Mover c k
+      first_due : IsMet c (k.seen h) h m → (p : ℕ) (a : Operation) → At c p a → Due p a → Mover c k h m
       first_due met p a at due = dite (ℕ_discrete (k.written h) (rank h c.operations p))
-          (λ e. writes_more h p a (at, due.1, due.0, sym e, λ u n j need le. met u n j need (let top : a.number ≤ m = due.2 in omega arith)))
+          (λ e. writes_more p a (at, due.1, due.0, sym e, λ u n j need le. met u n j need (let top : a.number ≤ m = due.2 in omega arith)) due.2)
           (λ n. let low : k.written h ≤ rank h c.operations p = due.3 in
           let o : k.written h ≡ rank h c.operations p → ⊥ = n in
           let t = write_at h c.operations p (k.written h) (omega arith) in
@@ -186,49 +186,50 @@ module _ (c : Course) (law : IsLawful c) where
           let own : b.hart ≡ h = eqb_is b.hart h w.1 in
           let order : b.number ≤ a.number = ⊎_elim (λ (x : b.number < a.number). omega arith) (λ (x : (b.number ≡ a.number) × (b.op < a.op)). (let y : b.number ≡ a.number = x.0 in omega arith)) (law.in_order.order t.0 p b a t.3 at t.2 (own ∙ sym due.0)) in
           let top : a.number ≤ m = due.2 in
-          writes_more h t.0 b (t.3, w.0, own, t.5, λ u z j need le. met u z j need (omega arith)))
+          writes_more t.0 b (t.3, w.0, own, t.5, λ u z j need le. met u z j need (omega arith)) (omega arith))
 
       -- the next record of a hart moves, once all before it is advertised
-      moves_here : Mover c k
+      pub moves_here : Mover c k h m
       moves_here = ⊎_elim
           (λ (all : (u : ℕ) → u < c.log.harts → Fine u). let met : IsMet c (k.seen h) h m = all_fine all in ⊎_elim
-          (λ (done : Each Done Due c.operations 0). tells_more h m own_hart (omega arith) (line_inside i h m l is, met, λ p a at own w le. done p p a at (omega arith) own w le))
+          (λ (done : Each Done Due c.operations 0). tells_more own_hart (omega arith) (line_inside i h m l is, met, λ p a at own w le. done p p a at (omega arith) own w le))
           (λ (t : One Done Due c.operations 0). first_due met t.1 t.2 (subst (λ (z : ℕ). At c z t.2) (let e : t.1 ≡ 0 + t.0 = t.4 in omega arith) t.3) t.5)
           (all_or_one Done Due c.operations 0 test_act))
-          (λ (t : (u : ℕ) × (u < c.log.harts) × Short u). sees_more h t.0 own_hart t.1 t.2.0 t.2.1)
+          (λ (t : (u : ℕ) × (u < c.log.harts) × Short u). sees_more t.0 own_hart t.1 t.2.0 t.2.1)
           (below_or_one Fine Short c.log.harts test_need)
 
-    -- either a step moves, or the records at the first i positions are advertised
-    told_next : (i : ℕ) → Told i → (o : Maybe Line) → get_elem? g i ≡ o → Told (suc i) ⊎ Mover c k
-    told_next i told none e = inl (λ j h m l lt is. dite (ℕ_discrete j i)
-        (λ same. absurd (some-ne-none l (sym (subst (λ (z : ℕ). get_elem? g z ≡ some l) same is.at) ∙ e)))
-        (λ n. told j h m l (let o : j ≡ i → ⊥ = n in omega arith) is))
-    told_next i told (some x) e =
-        let h : ℕ = hart_of x.what in
-        let m : ℕ = records_before h g i + 1 in
-        let is : IsRecord g i h m x = record { at = e; hart = refl; number = refl } in
-        let most : m ≤ k.progress h + 1 = (let b : records_before h g i ≤ k.progress h = told_before i h (records_before h g i) told (omega arith) in omega arith) in
-        dite (dec_le m (k.progress h))
-        (λ fine. inl (λ j v n l lt at. dite (ℕ_discrete j i)
-        (λ same. let there : IsRecord g i v n l = subst (λ (z : ℕ). IsRecord g z v n l) same at in
-        let line : x ≡ l = some-injective x l (sym e ∙ there.at) in
-        let hart : h ≡ v = ap (λ (z : Line). hart_of z.what) line ∙ there.hart in
-        let number : records_before v g i + 1 ≡ n = there.number in
-        let count : records_before h g i ≡ records_before v g i = ap (λ (z : ℕ). records_before z g i) hart in
-        let up : k.progress h ≡ k.progress v = ap k.progress hart in omega arith)
-        (λ ne. told j v n l (let o : j ≡ i → ⊥ = ne in omega arith) at)))
-        (λ short. inr (moves_here i h m x told is (let s : k.progress h < m = lt_of_not-le short in omega arith)))
+    -- a record that is not advertised, and all before it are, gives X
+    module _ (X : Type 0) (first : (i h m : ℕ) (l : Line) → Told i → IsRecord g i h m l → m ≡ k.progress h + 1 → X) where
+      told_next : (i : ℕ) → Told i → (o : Maybe Line) → get_elem? g i ≡ o → Told (suc i) ⊎ X
+      told_next i told none e = inl (λ j h m l lt is. dite (ℕ_discrete j i)
+          (λ same. absurd (some-ne-none l (sym (subst (λ (z : ℕ). get_elem? g z ≡ some l) same is.at) ∙ e)))
+          (λ n. told j h m l (let o : j ≡ i → ⊥ = n in omega arith) is))
+      told_next i told (some x) e =
+          let h : ℕ = hart_of x.what in
+          let m : ℕ = records_before h g i + 1 in
+          let is : IsRecord g i h m x = record { at = e; hart = refl; number = refl } in
+          let most : m ≤ k.progress h + 1 = (let b : records_before h g i ≤ k.progress h = told_before i h (records_before h g i) told (omega arith) in omega arith) in
+          dite (dec_le m (k.progress h))
+          (λ fine. inl (λ j v n l lt at. dite (ℕ_discrete j i)
+          (λ same. let there : IsRecord g i v n l = subst (λ (z : ℕ). IsRecord g z v n l) same at in
+          let line : x ≡ l = some-injective x l (sym e ∙ there.at) in
+          let hart : h ≡ v = ap (λ (z : Line). hart_of z.what) line ∙ there.hart in
+          let number : records_before v g i + 1 ≡ n = there.number in
+          let count : records_before h g i ≡ records_before v g i = ap (λ (z : ℕ). records_before z g i) hart in
+          let up : k.progress h ≡ k.progress v = ap k.progress hart in omega arith)
+          (λ ne. told j v n l (let o : j ≡ i → ⊥ = ne in omega arith) at)))
+          (λ short. inr (first i h m x told is (let s : k.progress h < m = lt_of_not-le short in omega arith)))
 
-    tells_all : (i : ℕ) → Told i ⊎ Mover c k
-    tells_all zero = inl (λ j h m l lt is. absurd (omega arith))
-    tells_all (suc i) = ⊎_elim (λ (told : Told i). told_next i told (get_elem? g i) refl) inr (tells_all i)
+      tells_all : (i : ℕ) → Told i ⊎ X
+      tells_all zero = inl (λ j h m l lt is. absurd (omega arith))
+      tells_all (suc i) = ⊎_elim (λ (told : Told i). told_next i told (get_elem? g i) refl) inr (tells_all i)
 
-    -- where some hart has not advertised all its records, a step moves
-    pub can_move : (h : ℕ) → k.progress h < length_of c h → Mover c k
-    can_move h short = ⊎_elim
-        (λ (told : Told (length g)). let up : length_of c h ≤ k.progress h = told_before (length g) h (length_of c h) told (omega arith) in absurd (omega arith))
-        (λ (m : Mover c k). m)
-        (tells_all (length g))
+      -- where some hart has not advertised all its records, there is a first that is not
+      pub first_untold : (h : ℕ) → k.progress h < length_of c h → X
+      first_untold h short = ⊎_elim
+          (λ (told : Told (length g)). let up : length_of c h ≤ k.progress h = told_before (length g) h (length_of c h) told (omega arith) in absurd (omega arith))
+          (λ (x : X). x)
+          (tells_all (length g))
 
 module _ (c : Course) where
   -- a read that may be made may be made after a look of its own hart

@@ -12,7 +12,6 @@ use Rattle.order_core.specs.declared.steps.Act.TheVariants.{See, Advertise, Perf
 use Rattle.order_core.specs.declared.steps.CoreStep.{CoreStep}
 use Rattle.order_core.specs.declared.refused.CoreRefused.{CoreRefused}
 use Rattle.order_core.specs.declared.refused.CoreRefused.TheVariants.{NotAble, NoMemory}
-use Rattle.order_core.specs.declared.state.CoreState.{CoreState}
 use Rattle.order_core.specs.Course.{At}
 use Rattle.order_core.specs.Core.{Core, IsPassed, MayWrite, MayRead, put, opening_core}
 use Rattle.order_core.specs.Lawful.{InOrder, IsName}
@@ -26,16 +25,21 @@ get_there [] i d l = absurd (omega arith)
 get_there (x ∷ xs) zero d l = refl
 get_there (x ∷ xs) (suc i) d l = get_there xs i d (omega arith)
 
+pub there_low : {A : Type 0} (xs : List A) (i : ℕ) (x : A) → slice_get xs i ≡ Some x → i < length xs
+there_low [] i x e = absurd (let f : None ≡ Some x = e in cc)
+there_low (y ∷ xs) zero x e = omega arith
+there_low (y ∷ xs) (suc i) x e = let l : i < length xs = there_low xs i x e in omega arith
+
 -- an error that names a step names any that is the same
-pub refused_at : (r : Result CoreState CoreRefused) (i j : ℕ) → IsErrAnd r (λ e. e ≡ NotAble i) → i ≡ j → MatchResult r (λ _. ⊥) (λ e. (e ≡ NotAble j) ⊎ (e ≡ NoMemory))
+pub refused_at : {A : Type 0} (r : Result A CoreRefused) (i j : ℕ) → IsErrAnd r (λ e. e ≡ NotAble i) → i ≡ j → MatchResult r (λ _. ⊥) (λ e. (e ≡ NotAble j) ⊎ (e ≡ NoMemory))
 refused_at (Ok s) i j is same = is
 refused_at (Err e) i j is same = inl (is ∙ ap (λ (z : ℕ). NotAble z) same)
 
 -- two states of the core that differ in their words alone
-record Alike (k m : Core) : Type 0 where
-  written : k.written ≡ m.written
-  progress : k.progress ≡ m.progress
-  seen : k.seen ≡ m.seen
+pub record Alike (k m : Core) : Type 0 where
+  pub written : k.written ≡ m.written
+  pub progress : k.progress ≡ m.progress
+  pub seen : k.seen ≡ m.seen
 
 module _ (c : Course) where
   may_perform : (h : ℕ) (k : Core) (p : ℕ) (a : Operation) (k' : Core) → Performs c h k p a k' → MayPerform c h k p a
@@ -67,7 +71,7 @@ module _ (c : Course) where
       (t.0, t.1, (r.0, r.1, t.2), t.3)
 
   -- a step performs one write at most
-  step_writes : (g h : ℕ) (k : Core) (act : Act) (k' : Core) → Makes c k g act k' → k'.written h ≤ k.written h + 1
+  pub step_writes : (g h : ℕ) (k : Core) (act : Act) (k' : Core) → Makes c k g act k' → k'.written h ≤ k.written h + 1
   step_writes g h k (See of) k' m = let e : k'.written h ≡ k.written h = ap (λ (z : Core). z.written h) m.1 in omega arith
   step_writes g h k (Advertise upto) k' m = let e : k'.written h ≡ k.written h = ap (λ (z : Core). z.written h) m.1 in omega arith
   step_writes g h k (Perform number op) k' m = by m.3
@@ -86,7 +90,7 @@ module _ (c : Course) where
       let more : k'.written h ≤ r.0.written h + length steps = few_writes h r.0 steps k' r.2 in
       omega arith
 
-  alike_allowed : (h : ℕ) (k m : Core) (act : Act) → Alike k m → IsAllowed c k h act → IsAllowed c m h act
+  pub alike_allowed : (h : ℕ) (k m : Core) (act : Act) → Alike k m → IsAllowed c k h act → IsAllowed c m h act
   alike_allowed h k m (See of) e t = t
   alike_allowed h k m (Advertise upto) e t = subst (λ (z : (ℕ → ℕ) × (ℕ → ℕ) × (ℕ → ℕ → ℕ)). (h < c.log.harts) × (z.0 h ≤ upto) × IsPassed c (z.1 h) (z.2 h) h upto) (λ i. (e.progress i, e.written i, e.seen i)) t
   alike_allowed h k m (Perform number op) e (p, a, name, inl w) = (p, a, name, inl (subst (λ (z : (ℕ → ℕ) × (ℕ → ℕ → ℕ)). MayWrite c h (z.0 h) (z.1 h) p a) (λ i. (e.written i, e.seen i)) w))
@@ -98,7 +102,7 @@ module _ (c : Course) where
         let e : p ≡ q = once c names short p q a b x y (s.0 ∙ sym t.0) (s.1 ∙ sym t.1) (s.2 ∙ sym t.2) in
         some-injective a b (sym x ∙ subst (λ (z : ℕ). At c z b) (sym e) y)
 
-    alike_after : (h : ℕ) (k m : Core) (act : Act) (k' m' : Core) → Alike k m → Makes c k h act k' → Makes c m h act m' → Alike k' m'
+    pub alike_after : (h : ℕ) (k m : Core) (act : Act) (k' m' : Core) → Alike k m → Makes c k h act k' → Makes c m h act m' → Alike k' m'
     alike_after h k m (See of) k' m' e x y = subst (λ (z : Core × Core). Alike z.0 z.1) (λ i. (sym x.1 i, sym y.1 i))
         (record { written = e.written; progress = e.progress; seen = λ i. put (e.seen i) h (put (e.seen i h) of (e.progress i of)) })
     alike_after h k m (Advertise upto) k' m' e x y = subst (λ (z : Core × Core). Alike z.0 z.1) (λ i. (sym x.1 i, sym y.1 i))
@@ -128,12 +132,7 @@ module _ (c : Course) where
         first.refused (alike_allowed first.step.hart t.0 first.before first.step.act e (allowed first.step.hart t.0 first.step.act t.1 t.3))
 
     pub not_whole : (steps : List CoreStep) (i : ℕ) (k : Core) → IsFirstRefused c steps i → IsReached c steps k → ⊥
-    not_whole steps i k first r = stops steps i (length steps) k first (low steps i first.step first.there) (subst (λ (z : List CoreStep). IsReached c z k) (sym (take-length steps)) r)
-      where
-        low : (xs : List CoreStep) (i : ℕ) (s : CoreStep) → slice_get xs i ≡ Some s → i < length xs
-        low [] i s e = absurd (let f : None ≡ Some s = e in cc)
-        low (x ∷ xs) zero s e = omega arith
-        low (x ∷ xs) (suc i) s e = let l : i < length xs = low xs i s e in omega arith
+    not_whole steps i k first r = stops steps i (length steps) k first (there_low steps i first.step first.there) (subst (λ (z : List CoreStep). IsReached c z k) (sym (take-length steps)) r)
 
     -- there is one first step that is not allowed
     pub one_first : (steps : List CoreStep) (i j : ℕ) → IsFirstRefused c steps i → IsFirstRefused c steps j → i ≡ j

@@ -12,11 +12,12 @@ use Rattle.order_core.specs.Course.{rank, last_lane, length_of, writes_of}
 use Rattle.order_core.specs.Lawful.{IsLawful}
 use Rattle.order_core.specs.Core.{Core, done_by, IsConsistent, IsFinished, IsOpen, MayRead, MayWrite, put, after_see, after_advertise, after_write, opening_core}
 use Rattle.order_core.specs.Runs.{Makes, Performs, Runs, IsReached, MovesAlong, LeavesRead, StaysOpen, most_moves}
+use Rattle.order_core.specs.FedCore.{IsUpTo}
 use Rattle.order_core.specs.Guarantees.{HasMove}
 use Rattle.order_core.proofs.Ranks.{put_here, put_else, put_same, left_same}
 use Rattle.order_core.proofs.Keeps.{reads, writes, advertises, looks, opens}
 use Rattle.order_core.proofs.Words.{landed, lands}
-use Rattle.order_core.proofs.Progress.{Mover, sees_more, tells_more, writes_more, below_or_one, can_move, read_after_see, read_after_write}
+use Rattle.order_core.proofs.Progress.{Mover, sees_more, tells_more, writes_more, below_or_one, first_untold, moves_here, read_after_see, read_after_write}
 use Rattle.order_core.proofs.Bound.{height, below, advertise_raises, write_raises, see_raises, write_counts}
 
 -- hart h is as far in both states
@@ -122,34 +123,51 @@ module _ (c : Course) (law : IsLawful c) where
   pub read_after_own : (h p : ℕ) (a : Operation) (k : Core) → IsConsistent c k → ReadAt h p a k → (s : CoreStep) (k' : Core) → Makes c k s.hart s.act k' → s.hart ≡ h → LeavesRead c h a s.act → StaysOpen c h p a k k'
   read_after_own h p a k st r s k' m e leaves = stays h p a k k' st (one_step s.hart k s.act k' st m) r (own_step h p a k st r s.act k' (subst (λ (z : ℕ). Makes c k z s.act k') e m) leaves)
 
-  pub moving : (k : Core) → Mover c k → HasMove c k
-  moving k (sees_more h u low other apart up) = (
+  -- hart h may make a step that changes the state, for no record above m
+  abbrev pub MovesUpTo : Core → ℕ → ℕ → Type 0
+  MovesUpTo k h m = (s : CoreStep) × (k' : Core) × Makes c k s.hart s.act k' × (k' ≢ k) × (s.hart ≡ h) × IsUpTo m s.act
+
+  pub moving : (k : Core) (h m : ℕ) → Mover c k h m → MovesUpTo k h m
+  moving k h m (sees_more u low other apart up) = (
     record { hart = h; act = See u },
     after_see k h u,
     ((low, other, apart), refl),
-    λ e. let n : put k.seen h (put (k.seen h) u (k.progress u)) h u ≡ k.seen h u = ap (λ (z : Core). z.seen h u) e in
+    (λ e. let n : put k.seen h (put (k.seen h) u (k.progress u)) h u ≡ k.seen h u = ap (λ (z : Core). z.seen h u) e in
         let x : put k.seen h (put (k.seen h) u (k.progress u)) h u ≡ put (k.seen h) u (k.progress u) u = ap (λ (f : ℕ → ℕ). f u) (put_here k.seen h (put (k.seen h) u (k.progress u))) in
-        let y : put (k.seen h) u (k.progress u) u ≡ k.progress u = put_here (k.seen h) u (k.progress u) in omega arith,
+        let y : put (k.seen h) u (k.progress u) u ≡ k.progress u = put_here (k.seen h) u (k.progress u) in omega arith),
+    refl,
+    tt,
   )
-  moving k (tells_more h m low up may) = (
+  moving k h m (tells_more low up may) = (
     record { hart = h; act = Advertise m },
     after_advertise k h m,
     ((low, (let l : k.progress h < m = up in omega arith), may), refl),
-    λ e. let n : put k.progress h m h ≡ k.progress h = ap (λ (z : Core). z.progress h) e in let x : put k.progress h m h ≡ m = put_here k.progress h m in omega arith,
+    (λ e. let n : put k.progress h m h ≡ k.progress h = ap (λ (z : Core). z.progress h) e in let x : put k.progress h m h ≡ m = put_here k.progress h m in omega arith),
+    refl,
+    omega arith,
   )
-  moving k (writes_more h p a may) = (
+  moving k h m (writes_more p a may low) = (
     record { hart = h; act = Perform a.number a.op },
     after_write k a (landed a.what (k.word a.what.word)),
     (p, a, (may.2, refl, refl), inl (may, landed a.what (k.word a.what.word), lands a.what (k.word a.what.word), refl)),
-    λ e. let n : put k.written a.hart (k.written a.hart + 1) a.hart ≡ k.written a.hart = ap (λ (z : Core). z.written a.hart) e in let x : put k.written a.hart (k.written a.hart + 1) a.hart ≡ k.written a.hart + 1 = put_here k.written a.hart (k.written a.hart + 1) in omega arith,
+    (λ e. let n : put k.written a.hart (k.written a.hart + 1) a.hart ≡ k.written a.hart = ap (λ (z : Core). z.written a.hart) e in let x : put k.written a.hart (k.written a.hart + 1) a.hart ≡ k.written a.hart + 1 = put_here k.written a.hart (k.written a.hart + 1) in omega arith),
+    refl,
+    low,
   )
 
-  pub can_change : (k : Core) → IsConsistent c k → (IsFinished c k → ⊥) → HasMove c k
-  can_change k st unfinished = moving k (⊎_elim
+  -- a hart that has not advertised all its records
+  pub short_hart : (k : Core) → IsConsistent c k → (IsFinished c k → ⊥) → (h : ℕ) × (k.progress h < length_of c h)
+  short_hart k st unfinished = ⊎_elim
       (λ (all : (h : ℕ) → h < c.log.harts → k.progress h ≡ length_of c h). absurd (unfinished all))
-      (λ (t : (h : ℕ) × (h < c.log.harts) × (k.progress h < length_of c h)). can_move c law k st t.0 t.2)
+      (λ (t : (h : ℕ) × (h < c.log.harts) × (k.progress h < length_of c h)). (t.0, t.2))
       (below_or_one (λ h. k.progress h ≡ length_of c h) (λ h. k.progress h < length_of c h) c.log.harts
-      (λ h low. let top : k.progress h ≤ length_of c h = (st.1.passed h).0 in dite (ℕ_discrete (k.progress h) (length_of c h)) inl (λ n. inr (let o : k.progress h ≡ length_of c h → ⊥ = n in omega arith)))))
+      (λ h low. let top : k.progress h ≤ length_of c h = (st.1.passed h).0 in dite (ℕ_discrete (k.progress h) (length_of c h)) inl (λ n. inr (let o : k.progress h ≡ length_of c h → ⊥ = n in omega arith))))
+
+  pub can_change : (k : Core) → IsConsistent c k → (IsFinished c k → ⊥) → HasMove c k
+  can_change k st unfinished =
+      let t = short_hart k st unfinished in
+      first_untold c law k st (HasMove c k)
+      (λ i h m l told is next. (let x : MovesUpTo k h m = moving k h m (moves_here c law k st i h m l told is next) in (x.0, x.1, x.2, x.3))) t.0 t.1
 
   raises : (h : ℕ) (k : Core) (s : Act) (k' : Core) → IsConsistent c k → Makes c k h s k' → k' ≢ k → height c k < height c k'
   raises h k (See of) k' st m ne = subst (λ (z : Core). height c k < height c z) (sym m.1)

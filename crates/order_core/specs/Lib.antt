@@ -9,8 +9,13 @@ pub mod Freed
 pub mod Turns
 pub mod Guarantees
 pub mod Outcomes
+pub mod FedCore
+pub mod Feeds
+pub mod FedOutcomes
 pub mod Shapes
 pub mod Filled
 pub mod Lists
 pub mod States
+pub mod HartFeeds
+pub mod FedStates
 pub mod inner

@@ -1,11 +1,12 @@
 //! What holds of the core's states, whatever the plan and the order of the steps.
-ghost use Rattle.std.specs.Prelude.{◌≡◌, ℕ, ◌+◌, ◌<◌, ◌≤◌, true, false, List, length};
+ghost use Rattle.std.specs.Prelude.{◌≡◌, ◌≢◌, ℕ, ◌+◌, ◌<◌, ◌≤◌, true, false, List, length};
 ghost use Rattle.pl_base.specs.declared.layout.TheConstants.{LANES};
 ghost use Rattle.pl_event.specs.declared.log.Log.{Log};
 ghost use Rattle.pl_event.specs.Needs.{IsNeed};
 ghost use Rattle.order_core.specs.declared.course.Course.{Course};
 ghost use Rattle.order_core.specs.declared.course.Op.{Op};
 ghost use Rattle.order_core.specs.declared.course.Operation.{Operation};
+ghost use Rattle.order_core.specs.declared.fed_step.FedStep.{FedStep};
 ghost use Rattle.order_core.specs.declared.steps.Act.{Act};
 ghost use Rattle.order_core.specs.declared.steps.CoreStep.{CoreStep};
 ghost use Rattle.order_core.specs.Lanes.{lane, Lands};
@@ -15,6 +16,8 @@ ghost use Rattle.order_core.specs.Core.{Core, opening_core, after_write, IsMet, 
 ghost use Rattle.order_core.specs.Core.{IsConsistent, IsOpen, IsNextWrite, IsFinished};
 ghost use Rattle.order_core.specs.Runs.{Makes, IsReached};
 ghost use Rattle.order_core.specs.Waits.{WaitsFor};
+ghost use Rattle.order_core.specs.FedCore.{FedCore, opening_fed, FedMakes};
+ghost use Rattle.order_core.specs.Feeds.{IsFedConsistent, HasFedMove, IsHandingOut};
 ghost use Rattle.order_core.specs.Freed.{HasEnded, after_free};
 ghost use Rattle.order_core.specs.Turns.{HasTurn, HasComeTo, HasComeToEnd};
 ghost use Rattle.order_core.specs.Guarantees.{ReadsFindValues, WritesFindLanes, ReadsStayOpen, HasLastWords};
@@ -71,6 +74,18 @@ pub fn never_stuck()
         ∥ HasMove c k ∥₁ }
     ensures bound { (c : Course) → ∥ IsLawful c ∥₁ → (steps : List CoreStep) (k : Core) → IsReached c steps k →
         HasFewMoves c k }
+{}
+
+/// The core beside its feeder: the opening state is consistent, and each allowed step keeps a state so. In each
+/// consistent state that is not finished a worker or the feeder may make a step that changes it. Each step of the feeder,
+/// and each in which a hart takes a chunk, changes the state.
+pub fn fed_core_never_stuck()
+    ensures opening { (c : Course) → ∥ IsLawful c ∥₁ → IsFedConsistent c (opening_fed c) }
+    ensures step { (c : Course) → ∥ IsLawful c ∥₁ → (f f' : FedCore) (s : FedStep) → IsFedConsistent c f →
+        FedMakes c f s f' → IsFedConsistent c f' }
+    ensures moves { (c : Course) → ∥ IsLawful c ∥₁ → (f : FedCore) → IsFedConsistent c f → (IsFinished c f.core → ⊥) →
+        ∥ HasFedMove c f ∥₁ }
+    ensures handing_out { (c : Course) (f f' : FedCore) (s : FedStep) → IsHandingOut s → FedMakes c f s f' → f' ≢ f }
 {}
 
 /// A hart that waits for another has a record next whose needs are not met. Where a hart has advertised all that it has

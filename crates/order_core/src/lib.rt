@@ -11,6 +11,13 @@
 #![tactic(auto)]
 
 mod course;
+mod fed_moves;
+mod fed_reads;
+mod fed_run;
+mod fed_state;
+mod fed_step;
+mod feed;
+mod feeding;
 mod lanes;
 mod laws;
 mod list_plan;
@@ -30,8 +37,11 @@ mod steps;
 mod tests;
 
 pub use course::{Course, FIRST_WORD, Op, Operation};
+pub use fed_run::run_fed;
+pub use fed_state::FedState;
+pub use fed_step::FedStep;
 pub use laws::{
-    core_is_sequential, filled_plans, freed_harts, never_stuck, open_reads, operations_in_turn,
+    core_is_sequential, fed_core_never_stuck, filled_plans, freed_harts, never_stuck, open_reads, operations_in_turn,
     plan_is_lawful, waiting_harts,
 };
 pub use list_plan::ListPlan;

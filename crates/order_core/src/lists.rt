@@ -8,7 +8,7 @@ use crate::course::Op;
 use crate::list_plan::ListPlan;
 use crate::plan::{Plan, PlanOps};
 use crate::record_plan::RecordPlan;
-use pl_event::{Arcs, Log};
+use pl_event::{Arcs, Log, record_hart};
 
 impl ListPlan {
     /// The plan of this log, these opening words, and for each hart these records.
@@ -66,6 +66,14 @@ impl PlanOps for ListPlan {
 
     fn needs(&self, hart: u8, number: u32) -> Arcs {
         stream(self.streams.as_slice(), hart)[(number - 1) as usize].needs
+    }
+
+    fn line_hart(&self, i: u32) -> Option<u8> {
+        let lines = &self.log.lines;
+        if lines.len() <= i as usize {
+            return None;
+        }
+        Some(record_hart(&lines.record(i as usize)))
     }
 
     fn opening(&self, word: u32) -> Option<u64> {

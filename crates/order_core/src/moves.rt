@@ -3,6 +3,7 @@ ghost use Rattle.std.specs.Prelude.{◌≡◌, ℕ, ◌<◌, ◌≤◌, ◌↔�
 ghost use Rattle.order_core.specs.declared.course.Op.{Op};
 ghost use Rattle.order_core.specs.declared.course.Operation.{Operation};
 ghost use Rattle.order_core.specs.declared.steps.Act.TheVariants.{See, Advertise, Perform};
+ghost use Rattle.order_core.specs.Core.{IsPassed};
 ghost use Rattle.order_core.specs.Course.{course, At, IsListed};
 ghost use Rattle.order_core.specs.Lawful.{IsName};
 ghost use Rattle.order_core.specs.inner.Places.{place_of, end_of, ClashesAround};
@@ -33,6 +34,24 @@ fn see<P: PlanOps>(plan: &P, state: &mut CoreState, hart: u8, of: u8) -> bool
     own.seen[of as usize] = number;
     state.harts[hart as usize] = own;
     true
+}
+
+// Whether a hart has passed its records up to a number. How many of them have needs that were met is kept.
+pub(crate) fn has_passed<P: PlanOps>(plan: &P, state: &mut CoreState, hart: u8, upto: u32) -> bool
+    requires fits { Fits (course P.planned plan.now) state.old }
+    requires hart { hart < (P.planned plan.now).log.harts }
+    ensures fits { Fits (course P.planned plan.now) state.new }
+    ensures same { core_of state.new ≡ core_of state.old }
+    ensures passed { let k = core_of state.old in
+        IsTrue result ↔ IsPassed (course P.planned plan.now) (k.written hart) (k.seen hart) hart upto }
+{
+    let own = state.harts[hart as usize];
+    if own.next.number <= upto {
+        return false;
+    }
+    let met = met_up_to(plan, hart, &own.seen, own.met, upto);
+    state.harts[hart as usize] = HartState { met, ..own };
+    upto <= met
 }
 
 // A hart sets its progress word.

@@ -29,6 +29,7 @@ pub trait Plan {
 pub trait PlanOps: Plan {
     ghost use Rattle.pl_event.specs.Needs.{needs_of};
     ghost use Rattle.order_core.specs.Course.{course, length_of};
+    ghost use Rattle.order_core.specs.FedCore.{hart_at};
 
     /// How many records a hart of the run has.
     fn len(&self, hart: u8) -> u32
@@ -48,6 +49,11 @@ pub trait PlanOps: Plan {
         requires from_one { 1 ≤ number }
         requires number { number ≤ length_of (course Self.planned self.now) hart }
         ensures { result ≡ needs_of (Self.planned self.now).log.lines hart number };
+
+    /// The hart of the log's line `i` in executed order, counted from 0, notices included; none where the log has no such
+    /// line.
+    fn line_hart(&self, i: u32) -> Option<u8>
+        ensures { result ≡ hart_at (Self.planned self.now).log.lines i };
 
     /// The opening word of a number; none where the table has no such word.
     fn opening(&self, word: u32) -> Option<u64>

@@ -18,7 +18,7 @@ use crate::steps::CoreStep;
 use std::alloc::Global;
 
 // The cursor of a hart.
-fn cursor_now<P: PlanOps>(plan: &P, hart: u8, own: HartState) -> u32
+pub(crate) fn cursor_now<P: PlanOps>(plan: &P, hart: u8, own: HartState) -> u32
     requires hart { hart < (P.planned plan.now).log.harts }
     requires kept { IsKept (course P.planned plan.now) hart own }
     ensures { IsCursor (course P.planned plan.now) own.written (slice_index own.seen) hart result }

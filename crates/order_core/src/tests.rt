@@ -4,7 +4,7 @@ ghost use Rattle.std.specs.Prelude.{◌≡◌, ◌<◌, ◌^◌, true, false, No
 ghost use Rattle.pl_event.specs.declared.log.Record.TheVariants as entry;
 ghost use Rattle.pl_event.specs.declared.event.Kind.TheVariants.{Im};
 
-use crate::{Act, CoreRefused, CoreStep, ListPlan, Op, RecordPlan, run_core};
+use crate::{Act, CoreRefused, CoreStep, FedStep, ListPlan, Op, RecordPlan, run_core, run_fed};
 use pl_base::NoMemory;
 use pl_event::{Arcs, Event, Kind, Line, Lines, Log, PageRuns, Record};
 use std::alloc::Global;
@@ -177,5 +177,51 @@ fn a_read_may_be_late_till_its_record_is_advertised(rt: HostRuntime) -> Result<(
         perform(1, 1, 0),
     ];
     assert!(rt; stops_at(&plan, alloc, &told, 6));
+    Ok(())
+}
+
+// Whether the run of the core and its feeder stops at this step, counted from 0.
+fn fed_stops_at(plan: &ListPlan, alloc: Global, steps: &[FedStep], step: u32) -> bool
+    requires { length steps.now < 2 ^ 32 }
+{
+    match run_fed(alloc, plan, steps) {
+        Err(CoreRefused::NotAble { at }) => at == step,
+        _ => false,
+    }
+}
+
+#[test]
+fn a_hart_makes_what_it_has_taken(rt: HostRuntime) -> Result<(), Fail> {
+    let plan = two_harts(rt.alloc())?;
+    let steps = [
+        FedStep::Produce,
+        FedStep::Produce,
+        FedStep::Produce,
+        FedStep::Offer { hart: 0 },
+        FedStep::Take { hart: 0 },
+        FedStep::Core(perform(0, 1, 0)),
+        FedStep::Core(advertise(0, 1)),
+    ];
+    let state = run_fed(rt.alloc(), &plan, &steps)?;
+    assert_eq!(rt; state.produced(), 3);
+    assert_eq!(rt; state.partial(0), 0);
+    assert_eq!(rt; state.partial(1), 1);
+    assert_eq!(rt; state.ring(0), 0);
+    assert_eq!(rt; state.taken(0), 2);
+    assert_eq!(rt; state.core().progress(0), 1);
+    assert_eq!(rt; state.core().cursor(0), 1);
+    Ok(())
+}
+
+#[test]
+fn no_hart_is_ahead_of_its_feeder(rt: HostRuntime) -> Result<(), Fail> {
+    let alloc = rt.alloc();
+    let plan = two_harts(alloc)?;
+    let empty = [FedStep::Take { hart: 0 }];
+    assert!(rt; fed_stops_at(&plan, alloc, &empty, 0));
+    let early = [FedStep::Produce, FedStep::Offer { hart: 0 }];
+    assert!(rt; fed_stops_at(&plan, alloc, &early, 1));
+    let ahead = [FedStep::Produce, FedStep::Core(perform(0, 1, 0))];
+    assert!(rt; fed_stops_at(&plan, alloc, &ahead, 1));
     Ok(())
 }

@@ -1,5 +1,5 @@
 -- What holds of each state of the core beside its feeder.
-use Rattle.std.specs.Prelude.{◌≡◌, ◌≢◌, ℕ, ◌+◌, ◌≤◌, List, length, sum, All}
+use Rattle.std.specs.Prelude.{◌≡◌, ◌≢◌, ℕ, ◌+◌, ◌≤◌, length, sum, All}
 use Rattle.pl_base.specs.declared.layout.TheConstants.{CHUNK_RECORDS, RING_CHUNKS}
 use Rattle.pl_event.specs.Records.{records_before}
 use Rattle.order_core.specs.declared.course.Course.{Course}

@@ -1,9 +1,8 @@
 -- In each consistent state of the core and its feeder that is not finished a step moves.
-use Rattle.std.proofs.Common.{◌≡◌, ◌≢◌, ℕ, zero, ◌+◌, ◌<◌, ◌≤◌, List, [], ◌∷◌, length, drop, min, sum, Option, Some, None, refl, sym, ap, ◌∙◌, subst, inl, inr, arith, lt_of_not-le}
+use Rattle.std.proofs.Common.{◌≡◌, ◌≢◌, ℕ, ◌+◌, ◌<◌, ◌≤◌, List, [], ◌∷◌, length, drop, min, sum, Option, Some, None, refl, sym, ap, ◌∙◌, subst, inl, inr, arith, lt_of_not-le}
 use mathlib.Core.Logic.{dite}
 use native.Mathlib.Decide.{dec_le}
 use Rattle.pl_event.specs.declared.log.Line.{Line}
-use Rattle.pl_event.specs.Numbers.{hart_of}
 use Rattle.pl_event.specs.Records.{records_before, IsRecord}
 use Rattle.pl_event.proofs.Places.{before_own, before_up}
 use Rattle.order_core.specs.declared.course.Course.{Course}
@@ -13,7 +12,7 @@ use Rattle.order_core.specs.declared.steps.Act.{Act}
 use Rattle.order_core.specs.declared.steps.Act.TheVariants.{See, Advertise, Perform}
 use Rattle.order_core.specs.Core.{IsCursor, IsPassed, IsFinished, put}
 use Rattle.order_core.specs.Course.{length_of}
-use Rattle.order_core.specs.FedCore.{Feed, FedCore, after_offer, after_take, hart_at, with_feed, with_record, IsAllProduced, IsFullChunk, IsFullRing, IsUpTo, MayOffer, MayProduce, MayTake, FedMakes}
+use Rattle.order_core.specs.FedCore.{Feed, FedCore, after_offer, after_take, hart_at, with_feed, with_record, IsFullChunk, IsFullRing, IsUpTo, MayOffer, MayProduce, MayTake, FedMakes}
 use Rattle.order_core.specs.Feeds.{IsFedConsistent, IsFedCursor, HasFedMove, IsHandingOut}
 use Rattle.order_core.specs.Lawful.{IsLawful}
 use Rattle.order_core.proofs.FeedLemmas.{hart_low}

@@ -7,9 +7,9 @@ use Rattle.order_core.specs.declared.course.Course.{Course}
 use Rattle.order_core.specs.declared.course.Operation.{Operation}
 use Rattle.order_core.specs.declared.fed_step.FedStep.{FedStep}
 use Rattle.order_core.specs.declared.fed_step.FedStep.TheVariants as step
-use Rattle.order_core.specs.Core.{Core, IsPassed, put}
+use Rattle.order_core.specs.Core.{IsPassed, put}
 use Rattle.order_core.specs.Course.{At}
-use Rattle.order_core.specs.FedCore.{Feed, FedCore, opening_fed, hart_at, with_feed, with_record, after_offer, after_take, IsUpTo, MayOffer, MayProduce, MayTake, IsFedAllowed, FedMakes, FedRuns, IsFedReached}
+use Rattle.order_core.specs.FedCore.{Feed, FedCore, opening_fed, hart_at, with_record, after_offer, after_take, IsUpTo, IsFedAllowed, FedMakes, FedRuns, IsFedReached}
 use Rattle.order_core.specs.FedOutcomes.{IsFirstFedRefused}
 use Rattle.order_core.specs.Lawful.{InOrder}
 use Rattle.order_core.proofs.RunLemmas.{Alike, allowed, alike_after, alike_allowed, step_writes, there_low}

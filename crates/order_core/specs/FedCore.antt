@@ -81,8 +81,8 @@ module _ (c : Course) where
   abbrev pub MayProduce : FedCore → ℕ → Type 0
   MayProduce f h = (hart_at c.log.lines f.produced ≡ Some h) × ((f.feed h).partial < CHUNK_RECORDS)
 
-  -- the partial chunk of hart h may go to its ring: it is not empty, the ring has room, and the chunk is full, or no line
-  -- is left, or the next line is held up
+  -- the partial chunk of hart h may go to its ring: it is not empty, the ring has room, and the chunk is full, or no
+  -- line is left, or the next line is held up
   pub record MayOffer (f : FedCore) (h : ℕ) : Type 0 where
     pub hart : h < c.log.harts
     pub some : 1 ≤ (f.feed h).partial

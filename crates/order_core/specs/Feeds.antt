@@ -1,5 +1,5 @@
 -- What holds of each state of the core beside its feeder.
-use Rattle.std.specs.Prelude.{◌≡◌, ◌≢◌, ℕ, ◌+◌, ◌≤◌, List, length, sum, All}
+use Rattle.std.specs.Prelude.{◌≡◌, ◌≢◌, ℕ, ◌+◌, ◌≤◌, length, sum, All}
 use Rattle.pl_base.specs.declared.layout.TheConstants.{CHUNK_RECORDS, RING_CHUNKS}
 use Rattle.pl_event.specs.Records.{records_before}
 use Rattle.order_core.specs.declared.course.Course.{Course}
@@ -13,15 +13,15 @@ abbrev pub IsChunkSize : ℕ → Type 0
 IsChunkSize n = (1 ≤ n) × (n ≤ CHUNK_RECORDS)
 
 module _ (c : Course) where
-  -- the records of hart h among the first n lines are those that it took, then those in its ring, then those of its
-  -- partial chunk
+  -- what hart h took, what is in its ring and its partial chunk add up to its records among the first n lines; each
+  -- chunk and the ring are within their limits
   pub record IsFeedOf (n h : ℕ) (x : Feed) : Type 0 where
     pub records : x.taken + sum x.ring + x.partial ≡ records_before h c.log.lines n
     pub partial : x.partial ≤ CHUNK_RECORDS
     pub chunks : All IsChunkSize x.ring
     pub room : length x.ring ≤ RING_CHUNKS
 
-  -- the core is consistent, each record of the lines that were produced was handed out once, in order, and no hart has
+  -- the core is consistent, the chunks of each hart hold its records of the lines that were produced, and no hart has
   -- advertised a record that it has not taken
   pub record IsFedConsistent (f : FedCore) : Type 0 where
     pub core : IsConsistent c f.core

@@ -73,10 +73,10 @@ fn opening_feeding<P: PlanOps>(alloc: Global, plan: &P) -> Result<Feeding, CoreR
     })
 }
 
-/// Makes the steps of the core and its feeder, one after the other, from the opening state of the plan, in which nothing
-/// was produced. The feeder produces the lines of the log in executed order; a chunk has at most 64 records, a ring at
-/// most 16 chunks, and a hart makes no step for a record that it has not taken. In all it takes a time near the number
-/// of steps and of the records and operations that they pass.
+/// Makes the steps of the core and its feeder, one after the other, from the opening state of the plan, in which
+/// nothing was produced. The feeder produces the lines of the log in executed order; a chunk has at most 64 records, a
+/// ring at most 16 chunks, and a hart makes no step for a record that it has not taken. In all it takes a time near the
+/// number of steps and of the records and operations that they pass.
 ///
 /// # Errors
 ///

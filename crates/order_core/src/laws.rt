@@ -77,8 +77,8 @@ pub fn never_stuck()
 {}
 
 /// The core beside its feeder: the opening state is consistent, and each allowed step keeps a state so. In each
-/// consistent state that is not finished a worker or the feeder may make a step that changes it. Each step of the feeder,
-/// and each in which a hart takes a chunk, changes the state.
+/// consistent state that is not finished a worker or the feeder may make a step that changes it. Each step of the
+/// feeder, and each in which a hart takes a chunk, changes the state.
 pub fn fed_core_never_stuck()
     ensures opening { (c : Course) → ∥ IsLawful c ∥₁ → IsFedConsistent c (opening_fed c) }
     ensures step { (c : Course) → ∥ IsLawful c ∥₁ → (f f' : FedCore) (s : FedStep) → IsFedConsistent c f →

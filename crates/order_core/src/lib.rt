@@ -41,8 +41,8 @@ pub use fed_run::run_fed;
 pub use fed_state::FedState;
 pub use fed_step::FedStep;
 pub use laws::{
-    core_is_sequential, fed_core_never_stuck, filled_plans, freed_harts, never_stuck, open_reads, operations_in_turn,
-    plan_is_lawful, waiting_harts,
+    core_is_sequential, fed_core_never_stuck, filled_plans, freed_harts, never_stuck, open_reads,
+    operations_in_turn, plan_is_lawful, waiting_harts,
 };
 pub use list_plan::ListPlan;
 pub use plan::{Plan, PlanOps};

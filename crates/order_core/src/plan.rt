@@ -50,8 +50,8 @@ pub trait PlanOps: Plan {
         requires number { number ≤ length_of (course Self.planned self.now) hart }
         ensures { result ≡ needs_of (Self.planned self.now).log.lines hart number };
 
-    /// The hart of the log's line `i` in executed order, counted from 0, notices included; none where the log has no such
-    /// line.
+    /// The hart of the log's line `i` in executed order, counted from 0, notices included; none where the log has no
+    /// such line.
     fn line_hart(&self, i: u32) -> Option<u8>
         ensures { result ≡ hart_at (Self.planned self.now).log.lines i };
 

@@ -1,4 +1,4 @@
-use Rattle.std.proofs.Common.{◌≡◌, ◌<◌, ◌≤◌, ◌∙◌, sym, arith}
+use Rattle.std.proofs.Common.{◌∙◌, sym}
 use Rattle.order_core.specs.declared.course.Course.{Course}
 use Rattle.order_core.specs.Course.{course}
 use Rattle.order_core.proofs.KnownLaws.{line_hart_low}

@@ -1,4 +1,4 @@
-use Rattle.std.proofs.Common.{rules, ◌≡◌, ℕ, ◌<◌, ◌≤◌, ◌⊎◌, IsTrue, take, length, refl, inl, inr, arith}
+use Rattle.std.proofs.Common.{rules, ◌≡◌, ◌≤◌, ◌⊎◌, IsTrue, take, length, refl, inl, inr, arith}
 use Rattle.order_core.specs.declared.course.Course.{Course}
 use Rattle.order_core.specs.declared.feed.HartFeed.{HartFeed}
 use Rattle.order_core.specs.Course.{course}
@@ -28,6 +28,7 @@ returns-clause-made g c _ =
       | else-not-has_full_chunk-via-then-not-has_full_chunk+else-not-is_waiting w ↦ inr (w.is_waiting.ensures.0 (let f = w.if-not-is_waiting.false in search rules))
       | else-not-has_full_chunk-via-else-not-has_full_chunk w ↦ inl (c.has_full_chunk.ensures.0 (let f = w.if-not-has_full_chunk.false in search rules))
     ]) in
-    let all : length c.args.state.now.feeds ≡ 8 = c.requires.fits.feeds.eight in
-    (record { hart = omega arith; some = omega arith; room = omega arith; due = due },
-    fed_set (core_of c.args.state.now.core) c.args.state.now.core c.args.state.now.produced c.args.state.now.feeds c.args.hart c.offered.result (after_offer (feed_of x)) (omega arith) refl c.offered.ensures.after)
+    let all : length c.args.state.now.feeds ≡ 8 = c.requires.fits.feeds.eight in (
+      record { hart = omega arith; some = omega arith; room = omega arith; due = due },
+      fed_set (core_of c.args.state.now.core) c.args.state.now.core c.args.state.now.produced c.args.state.now.feeds c.args.hart c.offered.result (after_offer (feed_of x)) (omega arith) refl c.offered.ensures.after,
+    )

@@ -50,6 +50,8 @@ returns-clause-made g c _ =
     let low : h < 8 = line_hart_low k (g.met.P.Plan.lawful plan) c.args.state.now.produced h next in
     let most : x.partial ≤ 64 = (c.requires.consistent.feeds h).partial in
     let not : x.partial ≡ 64 → ⊥ = (λ e. let t : IsTrue c.has_full_chunk.result = c.has_full_chunk.ensures.1 e in let f = c.if-has_full_chunk.false in search rules) in
-    let all : length c.args.state.now.feeds ≡ 8 = c.requires.fits.feeds.eight in
-    (h, (next, omega arith),
-    fed_set (core_of c.args.state.now.core) c.args.state.now.core (c.args.state.now.produced + 1) c.args.state.now.feeds h c.with_record.result (with_record (feed_of x)) (omega arith) refl c.with_record.ensures.after)
+    let all : length c.args.state.now.feeds ≡ 8 = c.requires.fits.feeds.eight in (
+      h,
+      (next, omega arith),
+      fed_set (core_of c.args.state.now.core) c.args.state.now.core (c.args.state.now.produced + 1) c.args.state.now.feeds h c.with_record.result (with_record (feed_of x)) (omega arith) refl c.with_record.ensures.after,
+    )

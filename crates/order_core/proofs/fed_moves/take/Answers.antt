@@ -1,5 +1,5 @@
-use Rattle.std.proofs.Common.{rules, ◌≡◌, ℕ, ◌+◌, ◌<◌, ◌≤◌, ◌^◌, IsTrue, take, length, slice_index, arith}
-use Rattle.std.proofs.lemmas.List.{get_or-take, length-take-le}
+use Rattle.std.proofs.Common.{rules, ◌≡◌, ◌+◌, ◌<◌, ◌≤◌, IsTrue, take, length, slice_index, arith}
+use Rattle.std.proofs.lemmas.List.{get_or-take}
 use Rattle.order_core.specs.declared.course.Course.{Course}
 use Rattle.order_core.specs.declared.feed.HartFeed.{HartFeed}
 use Rattle.order_core.specs.Course.{course}
@@ -40,6 +40,7 @@ returns-clause-made g c _ =
     let kept : IsKeptFeed x = c.requires.fits.feeds.each c.args.hart (omega arith) in
     let long : length (take x.count x.chunks) ≡ x.count = ring_long x kept in
     let t : IsTrue c.has_passed.result = (let f = c.if-not-has_passed.false in search rules) in
-    let all : length c.args.state.now.feeds ≡ 8 = c.requires.fits.feeds.eight in
-    (record { hart = omega arith; some = omega arith; passed = c.has_passed.ensures.passed.0 t },
-    fed_set (core_of c.args.state.now.core) c.has_passed.new.state c.args.state.now.produced c.args.state.now.feeds c.args.hart c.took.result (after_take (feed_of x)) (omega arith) c.has_passed.ensures.same c.took.ensures.after)
+    let all : length c.args.state.now.feeds ≡ 8 = c.requires.fits.feeds.eight in (
+      record { hart = omega arith; some = omega arith; passed = c.has_passed.ensures.passed.0 t },
+      fed_set (core_of c.args.state.now.core) c.has_passed.new.state c.args.state.now.produced c.args.state.now.feeds c.args.hart c.took.result (after_take (feed_of x)) (omega arith) c.has_passed.ensures.same c.took.ensures.after,
+    )

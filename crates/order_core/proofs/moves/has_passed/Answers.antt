@@ -1,4 +1,4 @@
-use Rattle.std.proofs.Common.{◌≡◌, ◌<◌, ◌≤◌, IsTrue, true, false, leb-true, le-leb, refl, arith}
+use Rattle.std.proofs.Common.{◌≡◌, ◌<◌, ◌≤◌, true, false, leb-true, le-leb, refl, arith}
 use Rattle.order_core.specs.declared.course.Course.{Course}
 use Rattle.order_core.specs.Course.{course}
 use Rattle.order_core.proofs.Known.{Known, known}

@@ -8,7 +8,7 @@ use Rattle.shadow_frames.specs.Words.{nibble_of}
 abbrev pub TellsOf : ℕ → Bytes → ℕ → ℕ → Type 0
 TellsOf word bytes addr len = (i : ℕ) → i < len
     → (nibble_at bytes (addr + i) ≡ nibble_of word (addr % BLOCK_BYTES + i))
-        × (nibble_of word (addr % BLOCK_BYTES + i) < 8)
+    × (nibble_of word (addr % BLOCK_BYTES + i) < 8)
 
 -- the nibbles of so many bytes from addr on are below 8
 abbrev pub HasLowNibbles : ℕ → ℕ → ℕ → Type 0

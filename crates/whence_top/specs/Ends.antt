@@ -26,12 +26,16 @@ RefusesJob fault notes status.BadJob = IsNoted notes (job_note fault)
 RefusesJob fault notes status.NoMemory = IsNoted notes memory_note
 RefusesJob fault notes _ = ⊥
 
--- what it says of the end of reading
-abbrev pub RefusesRead : ReadEnd → Told → Status → Type 0
-RefusesRead end.Fault notes status.ReadFault = IsNoted notes read_note
-RefusesRead end.TooLong notes status.TooLong = IsNoted notes length_note
-RefusesRead end.NoMemory notes status.NoMemory = IsNoted notes memory_note
-RefusesRead _ notes _ = ⊥
+-- the status and the note of an end of reading
+abbrev pub end_status : ReadEnd → Status
+end_status end.Fault = status.ReadFault
+end_status end.TooLong = status.TooLong
+end_status end.NoMemory = status.NoMemory
+
+abbrev pub end_note : ReadEnd → List ℕ
+end_note end.Fault = read_note
+end_note end.TooLong = length_note
+end_note end.NoMemory = memory_note
 
 -- what it says of the bytes of an input, of the output and of the notes
 abbrev pub Tells : List Pair → List ℕ → Told → Told → Status → Type 0

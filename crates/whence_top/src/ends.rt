@@ -2,7 +2,7 @@
 ghost use Rattle.std.specs.Prelude.{◌≡◌, ◌<◌, ◌^◌, length, IfOk, string_bytes};
 ghost use Rattle.paralog_top.specs.Asked.{tells};
 ghost use Rattle.paralog_top.specs.Notes.{IsNoted};
-ghost use Rattle.whence_top.specs.Ends.{Delivers, RefusesJob, RefusesRead, Tells};
+ghost use Rattle.whence_top.specs.Ends.{Delivers, RefusesJob, Tells, end_note, end_status};
 ghost use Rattle.whence_top.specs.Notes.{job_note, memory_note};
 
 use crate::answer::answer;
@@ -71,7 +71,8 @@ fn job_line(alloc: Global, fault: JobFault) -> Result<String, AllocError>
 
 /// Notes why the input was not read to its end.
 pub fn not_read<E: Sink>(end: ReadEnd, notes: &mut E) -> Status
-    ensures { RefusesRead end (tells E.written E.faults notes.old notes.new) result }
+    ensures status { result ≡ end_status end }
+    ensures noted { IsNoted (tells E.written E.faults notes.old notes.new) (end_note end) }
 {
     match end {
         ReadEnd::Fault => {

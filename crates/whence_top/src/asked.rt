@@ -1,6 +1,6 @@
 //! The events that the words name.
-ghost use Rattle.std.specs.Prelude.{◌≡◌, ◌<◌, ◌≤◌, ◌+◌, ◌*◌, ◌++◌, ◌∷◌, [], All, List, length, take, map, string_bytes};
-ghost use Rattle.std.specs.Prelude.{MatchOption};
+ghost use Rattle.std.specs.Prelude.{◌≡◌, ◌↔◌, ◌<◌, ◌≤◌, ◌+◌, ◌*◌, ◌++◌, ◌∷◌, [], All, List, length, take, map};
+ghost use Rattle.std.specs.Prelude.{IsTrue, MatchOption, string_bytes};
 ghost use Rattle.std.specs.Fmt.{decimal};
 ghost use Rattle.whence_trail.specs.declared.trail.Pair.{Pair};
 ghost use Rattle.whence_top.specs.Asking.{AsksFor, AsksForNone, MayAsk, words_of};
@@ -34,10 +34,10 @@ impl Asked {
         ensures { let words = map string_bytes words.now in
             MatchOption result (AsksForNone words) (AsksFor words) }
     {
-        if words.is_empty() || words.len() > 2 * MAX_PAIRS {
-            None
-        } else {
+        if may_ask(words) {
             parse_more(Asked::new(), words)
+        } else {
+            None
         }
     }
 
@@ -65,6 +65,13 @@ impl Asked {
     {
         &self.pairs[..self.count]
     }
+}
+
+/// Whether there are words, and at most two for each pair.
+fn may_ask(words: &[String]) -> bool
+    ensures { IsTrue result ↔ ((1 ≤ length words.now) × (length words.now ≤ 16)) }
+{
+    !words.is_empty() && words.len() <= 2 * MAX_PAIRS
 }
 
 /// These pairs, and after them those that the words spell.

@@ -18,8 +18,8 @@
 //! < end
 //! ```
 //!
-//! What the row shows, the words of the command and its status come first. After them come, in any order, as many of
-//! these lines as the row needs:
+//! What the row shows, the words of the command and its status come first; `whence 1 2` in the place of the words calls
+//! the program `whence` with the words `1 2`. After them come, in any order, as many of these lines as the row needs:
 //!
 //! | Line | Means |
 //! |---|---|

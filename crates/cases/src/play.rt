@@ -1,10 +1,11 @@
 //! Plays a row: its words on its input.
 
 use crate::outcome::Outcome;
-use crate::row::Row;
+use crate::row::{Program, Row};
 use pl_base::{Failed, MemSource, NoMemory, Source};
 use standard_top::standard_top;
 use std::alloc::Global;
+use whence_top::whence_top;
 
 /// How many bytes the source has left, whichever reads fail.
 fn bytes_left(source: &mut MemSource) -> usize {
@@ -25,7 +26,10 @@ pub fn play(alloc: Global, row: &Row) -> Result<Outcome, NoMemory> {
     let mut source = row.source.source(row.input.clone()?)?;
     let mut out = row.sink.sink(alloc)?;
     let mut notes = row.notes.sink(alloc)?;
-    let status = standard_top(alloc, &row.words, &mut source, &mut out, &mut notes)?;
+    let status = match row.program {
+        Program::Paralog => standard_top(alloc, &row.words, &mut source, &mut out, &mut notes)?,
+        Program::Whence => whence_top(alloc, &row.words, &mut source, &mut out, &mut notes),
+    };
     Ok(Outcome {
         status: status.code(),
         output: out.written().to_vec(alloc)?,

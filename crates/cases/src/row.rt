@@ -25,10 +25,18 @@ impl<'a> RowLine<'a> {
     }
 }
 
+/// Whose words a row has.
+#[derive(Clone, Copy)]
+pub enum Program {
+    Paralog,
+    Whence,
+}
+
 /// The words of a command, its input and how it is given, how the output and the note are taken, and what it comes to.
 #[derive(Drop)]
 pub struct Row {
     pub name: String,
+    pub program: Program,
     pub words: Vec<String>,
     pub input: Vec<u8>,
     pub source: Device,
@@ -44,8 +52,12 @@ impl Row {
             bail!("a block of less than three lines");
         };
         let code = status.after("status ")?.parse::<u8>()?;
-        let mut row = Row::new(alloc, name.after("row ")?, code)?;
-        for word in words.after("words")?.split(' ').skip(1) {
+        let (program, words) = match words.text.strip_prefix("whence") {
+            Some(words) => (Program::Whence, words),
+            None => (Program::Paralog, words.after("words")?),
+        };
+        let mut row = Row::new(alloc, name.after("row ")?, program, code)?;
+        for word in words.split(' ').skip(1) {
             row.words.push(String::from_str(alloc, word)?)?;
         }
         for line in others {
@@ -56,9 +68,10 @@ impl Row {
     }
 
     /// A row without words and input.
-    fn new(alloc: Global, name: &str, status: u8) -> Result<Row> {
+    fn new(alloc: Global, name: &str, program: Program, status: u8) -> Result<Row> {
         Ok(Row {
             name: String::from_str(alloc, name)?,
+            program,
             words: Vec::new(alloc),
             input: Vec::new(alloc),
             source: Device::new(alloc),

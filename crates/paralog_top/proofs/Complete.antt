@@ -67,7 +67,7 @@ both_within limit told P Q given reads =
     (given.bytes, given.known, subst Q same reads.0.holds)
 
 -- what was read is what was at hand
-both : (kind : Input) (told : Told) (P Q : List ℕ → Type 0) → HasInput kind told P → Reads kind told Q → Both P Q
+pub both : (kind : Input) (told : Told) (P Q : List ℕ → Type 0) → HasInput kind told P → Reads kind told Q → Both P Q
 both kinds.Log told P Q given reads = both_within MAX_LOG_BYTES told P Q given reads
 both kinds.Job told P Q given reads = both_within MAX_JOB_BYTES told P Q given reads
 both kinds.Nothing told P Q given reads = ([], given, reads.1)
@@ -80,12 +80,13 @@ long_within limit told P given taken =
     absurd (omega (arith, given.few, less))
 
 -- an input at hand is not too long, and no read of it failed
-not_long : (kind : Input) (told : Told) (P : List ℕ → Type 0) → HasInput kind told P → Takes kind end.TooLong told → ⊥
+pub not_long : (kind : Input) (told : Told) (P : List ℕ → Type 0) → HasInput kind told P → Takes kind end.TooLong told
+    → ⊥
 not_long kinds.Log told P given taken = long_within MAX_LOG_BYTES told P given taken
 not_long kinds.Job told P given taken = long_within MAX_JOB_BYTES told P given taken
 not_long kinds.Nothing told P given taken = taken
 
-not_failed : (kind : Input) (told : Told) (P : List ℕ → Type 0) → HasInput kind told P → Takes kind end.Fault told
+pub not_failed : (kind : Input) (told : Told) (P : List ℕ → Type 0) → HasInput kind told P → Takes kind end.Fault told
     → Rose told.faults_before told.faults_after → ⊥
 not_failed kinds.Log told P given taken rose = given.calm rose
 not_failed kinds.Job told P given taken rose = given.calm rose

@@ -30,5 +30,6 @@ mod upgrade;
 pub use chosen::Chosen;
 pub use command::Command;
 pub use input::Input;
+pub use notes::note;
 pub use status::Status;
 pub use top::plain_top;

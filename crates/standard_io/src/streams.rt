@@ -1,4 +1,4 @@
-//! Standard input, output and error as a source and sinks.
+//! Readers and writers as sources and sinks.
 use pl_base::{Failed, Sink, Source};
 use std::io::{Read, Write};
 

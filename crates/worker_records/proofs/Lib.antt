@@ -10,3 +10,6 @@ pub mod StoreLemmas
 pub mod FieldLemmas
 pub mod MadeLemmas
 pub mod EventLemmas
+pub mod ShapeLemmas
+pub mod BlockLemmas
+pub mod LoopLemmas

@@ -7,11 +7,16 @@
 #![tactic(auto)]
 
 mod accesses;
+mod blocks;
 mod checks;
 mod late;
 mod notices;
+mod operations;
+mod pages;
 mod plain;
+mod ranges;
 mod reports;
+mod shapes;
 mod state;
 mod steps;
 mod words;

@@ -13,3 +13,4 @@ pub mod EventLemmas
 pub mod ShapeLemmas
 pub mod BlockLemmas
 pub mod LoopLemmas
+pub mod RangeLemmas

@@ -24,12 +24,14 @@ module _ (page : (ℕ → ℕ) → ℕ → List Shape) where
   words_at w p k = after_shapes w (pages_from page w p k)
 
   split : (k n : ℕ) (w : ℕ → ℕ) (p : ℕ) → pages_from page w p (k + n) ≡ pages_from page w p k ++ pages_from page (words_at w p k) (p + k) n
-  split zero n w p = ap (λ (z : ℕ). pages_from page w z n) (let e : p ≡ p + 0 = omega arith in e)
+  split zero n w p = ap (pages_from page w p) (let e : 0 + n ≡ n = omega arith in e) ∙ ap (λ (z : ℕ). pages_from page w z n) (let e : p ≡ p + 0 = omega arith in e)
   split (suc k) n w p =
       let next : ℕ → ℕ = after_shapes w (page w p) in
-      ap (λ (z : List Shape). page w p ++ z) (split k n next (suc p))
+      ap (pages_from page w p) (let e : suc k + n ≡ suc (k + n) = omega arith in e)
+      ∙ (ap (λ (z : List Shape). page w p ++ z) (split k n next (suc p))
       ∙ (sym (append_assoc (page w p) (pages_from page next (suc p) k) (pages_from page (words_at next (suc p) k) (suc p + k) n))
-      ∙ (λ d. (page w p ++ pages_from page next (suc p) k) ++ pages_from page (after_append w (page w p) (pages_from page next (suc p) k) (~ d)) (let e : suc p + k ≡ p + suc k = omega arith in e d) n))
+      ∙ (ap (λ (z : ℕ → ℕ). (page w p ++ pages_from page next (suc p) k) ++ pages_from page z (suc p + k) n) (sym (after_append w (page w p) (pages_from page next (suc p) k)))
+      ∙ ap (λ (z : ℕ). (page w p ++ pages_from page next (suc p) k) ++ pages_from page (words_at w p (suc k)) z n) (let e : suc p + k ≡ p + suc k = omega arith in e))))
 
   -- those after the page at k, of n
   abbrev rest_at : (ℕ → ℕ) → ℕ → ℕ → ℕ → List Shape
@@ -49,12 +51,13 @@ module _ (page : (ℕ → ℕ) → ℕ → List Shape) where
     due_at k lt =
         let all : IsDue plan v number 0 (pages_from page m.words p k ++ (page (words_at m.words p k) (p + k) ++ rest_at m.words p k n)) m
         = subst (λ (z : List Shape). IsDue plan v number 0 z m) (split_at k n m.words p lt) due in
-        due_first plan (made (pages_from page m.words p k) v) number (length (pages_from page m.words p k)) (record m { words = words_at m.words p k }) (page (words_at m.words p k) (p + k)) (rest_at m.words p k n)
-        (due_rest plan v number 0 m (pages_from page m.words p k) (page (words_at m.words p k) (p + k) ++ rest_at m.words p k n) all)
+        subst (λ (z : ℕ). IsDue plan (made (pages_from page m.words p k) v) number z (page (words_at m.words p k) (p + k)) (midst_at k)) (let e : 0 + length (pages_from page m.words p k) ≡ length (pages_from page m.words p k) = omega arith in e)
+        (due_first plan (made (pages_from page m.words p k) v) number (0 + length (pages_from page m.words p k)) (record m { words = words_at m.words p k }) (page (words_at m.words p k) (p + k)) (rest_at m.words p k n)
+        (due_rest plan v number 0 m (pages_from page m.words p k) (page (words_at m.words p k) (p + k) ++ rest_at m.words p k n) all))
 
-  pub made_more : (w : ℕ → ℕ) (p k : ℕ) (v t u : View) → t ≡ made (pages_from page w p k) v → u ≡ made (page (words_at w p k) (p + k)) t → u ≡ made (pages_from page w p (suc k)) v
+  pub made_more : (w : ℕ → ℕ) (p k : ℕ) (v t u : View) → t ≡ made (pages_from page w p k) v → u ≡ made (page (words_at w p k) (p + k)) t → u ≡ made (pages_from page w p (k + 1)) v
   made_more w p k v t u was is = is ∙ (ap (made (page (words_at w p k) (p + k))) was
-      ∙ (made_both (pages_from page w p k) (page (words_at w p k) (p + k)) v ∙ ap (λ (z : List Shape). made z v) (sym (pages_more page k w p))))
+      ∙ (made_both (pages_from page w p k) (page (words_at w p k) (p + k)) v ∙ (ap (λ (z : List Shape). made z v) (sym (pages_more page k w p)) ∙ ap (λ (z : ℕ). made (pages_from page w p z) v) (let e : suc k ≡ k + 1 = omega arith in e))))
 
-  pub count_more : (w : ℕ → ℕ) (p k op n : ℕ) → op ≡ length (pages_from page w p k) → n ≡ length (page (words_at w p k) (p + k)) → op + n ≡ length (pages_from page w p (suc k))
-  count_more w p k op n was is = (λ d. was d + is d) ∙ (sym (length-append (pages_from page w p k) (page (words_at w p k) (p + k))) ∙ ap length (sym (pages_more page k w p)))
+  pub count_more : (w : ℕ → ℕ) (p k op n : ℕ) → op ≡ length (pages_from page w p k) → n ≡ length (page (words_at w p k) (p + k)) → op + n ≡ length (pages_from page w p (k + 1))
+  count_more w p k op n was is = (λ d. was d + is d) ∙ (sym (length-append (pages_from page w p k) (page (words_at w p k) (p + k))) ∙ (ap length (sym (pages_more page k w p)) ∙ ap (λ (z : ℕ). length (pages_from page w p z)) (let e : suc k ≡ k + 1 = omega arith in e)))

@@ -183,7 +183,9 @@ pub fn read_range<P: Plan, L: Lifeguard>(
         × IsAmid p v number 0 event w
         (pages_from operations.read_block w (range.addr / BLOCK_BYTES) (blocks_of range.addr range.len)) }
     ensures at { IsAt P.planned monitor.now (L.rules guard) seat.new }
-    ensures view { seat_view seat.new ≡ seat_view seat.old }
+    ensures view { let v = seat_view seat.old in let p = run_at (L.rules guard) v in
+        let w = (before p v.hart number).words in seat_view seat.new
+        ≡ made (pages_from operations.read_block w (range.addr / BLOCK_BYTES) (blocks_of range.addr range.len)) v }
     ensures touched { let v = seat_view seat.old in
         let bytes = (before (run_at (L.rules guard) v) v.hart number).state.bytes in
         result.touched ≡ find (λ a. (L.rules guard).bad_access (nibble_at bytes a)) (span range.addr range.len) }

@@ -11,6 +11,7 @@ use Rattle.worker_laws.specs.Runs.{Run, before}
 use Rattle.worker_records.specs.Alerts.{part_of}
 use Rattle.worker_records.specs.declared.ranges.ByteRange.{ByteRange}
 use Rattle.worker_records.specs.Places.{IsAt, run_at}
+use Rattle.worker_records.proofs.BlockLemmas.{all_found}
 use Rattle.worker_records.proofs.RangeLemmas.{change_few, change_found, change_next, change_now, change_small}
 use Rattle.worker_records.proofs.blocks.change_range.Goals as goal
 
@@ -72,3 +73,10 @@ loop-i-preserved g c =
           (λ a. (g.L.Lifeguard.rules c.args.guard).bad_access (nibble_at (before p v.hart c.args.number).state.bytes a)) c.loop-i.touched c.next_touched-touched.result inv.touched
           (c.next_touched-touched.ensures (before p v.hart c.args.number).state.bytes next.tells);
     }
+
+pub returns-clause-touched : goal.returns-clause-touched
+returns-clause-touched g c =
+    let v = seat_view c.args.seat.now in
+    let p : Run = run_at (g.L.Lifeguard.rules c.args.guard) v in
+    all_found (λ a. (g.L.Lifeguard.rules c.args.guard).bad_access (nibble_at (before p v.hart c.args.number).state.bytes a)) c.args.range.addr c.args.range.len c.loop-i.i c.loop-i.touched
+    (subst (λ (z : ℕ). z ≤ c.loop-i.i) c.blocks-i-end.ensures c.loop-i-test.false) c.loop-i.invariant.touched

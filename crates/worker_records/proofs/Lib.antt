@@ -14,3 +14,4 @@ pub mod ShapeLemmas
 pub mod BlockLemmas
 pub mod LoopLemmas
 pub mod RangeLemmas
+pub mod PageLemmas

@@ -15,3 +15,6 @@ pub mod BlockLemmas
 pub mod LoopLemmas
 pub mod RangeLemmas
 pub mod PageLemmas
+pub mod KeptPages
+pub mod MapLemmas
+pub mod OperateLemmas

@@ -23,7 +23,8 @@ module _ (p : Run) (v u : View) (number : ℕ) (kind : Kind) (amid : IsAmid p v 
 
   pub few : length (shapes_at p v.hart number kind) < 4294967295
   few = ∥∥₁_elim (amid.run.represents (line_number p.plan.log.lines v.hart number - 1)) (hlevel props) (λ (st : WordsRepresent (before p v.hart number).words (before p v.hart number).state.bytes).
-      few_operations p.rules p.plan.log.block v.hart (before p v.hart number).state.masks (before p v.hart number).words (before p v.hart number).state.bytes kind fields)
+      few_operations p.rules amid.run.laws p.plan.log.block v.hart (before p v.hart number).state.masks (before p v.hart number).state.bytes (amid.run.range (line_number p.plan.log.lines v.hart number - 1)).nibbles
+      (before p v.hart number).words st kind fields)
 
   -- the event by another name for its kind
   pub amid_by : (k : Kind) → kind ≡ k → IsAmid p v number 0 kind (before p v.hart number).words (shapes_at p v.hart number k)

@@ -1,8 +1,8 @@
 -- A range is changed or read block by block: what each block's word tells, and what is found so far.
-use Rattle.std.proofs.Common.{◌≡◌, ◌≢◌, ℕ, zero, suc, ◌+◌, ◌-◌, ◌*◌, ◌/◌, ◌%◌, ◌^◌, ◌<◌, ◌≤◌, ◌==◌, Bool, true, false, List, [], ◌∷◌, ◌++◌, length, Option, Some, None, find, refl, sym, ap, ◌∙◌, subst, arith, eq-eqb, ne_eqb, append_assoc, if◌then◌else◌}
+use Rattle.std.proofs.Common.{◌≡◌, ◌≢◌, ℕ, zero, suc, ◌+◌, ◌-◌, ◌*◌, ◌/◌, ◌%◌, ◌^◌, ◌<◌, ◌≤◌, ◌==◌, Bool, true, false, List, [], ◌∷◌, ◌++◌, Option, Some, None, find, refl, sym, ap, ◌∙◌, subst, arith, eq-eqb, ne_eqb, if◌then◌else◌}
 use Rattle.std.specs.Prelude.{max, min, unwrap_or}
 use mathlib.Core.Logic.{dite}
-use native.Mathlib.Decide.{dec_le, ℕ_discrete}
+use native.Mathlib.Decide.{dec_le}
 use Rattle.lifeguard.specs.declared.guard.RangeKind.{RangeKind}
 use Rattle.lifeguard.specs.Rules.{Rules}
 use Rattle.lifeguard.specs.State.{Bytes, changed, is_in, nibble_at, span}
@@ -17,7 +17,8 @@ use Rattle.shadow_layout.specs.Operations.{block_directory, block_word, blocks_o
 use Rattle.shadow_layout.proofs.Blocks.{done_up_to}
 use Rattle.worker_records.proofs.AccessLemmas.{word_is}
 use Rattle.worker_records.proofs.ShapeLemmas.{DueFrom, first_of, like, made_none as nothing_made, made_past_read, made_past_write, past_read}
-use Rattle.worker_records.specs.Alerts.{IsDue, IsMadeBlock, IsSoundBlock, Midst, found_at, found_in, or_else, part_of, part_shapes}
+use Rattle.worker_records.specs.Shapes.{IsDue, Midst}
+use Rattle.worker_records.specs.Blocks.{IsMadeBlock, IsSoundBlock, found_at, found_in, or_else, part_of, part_shapes}
 use Rattle.worker_records.specs.Words.{TellsOf}
 use Rattle.worker_records.specs.declared.ranges.ByteRange.{ByteRange}
 

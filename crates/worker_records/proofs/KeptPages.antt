@@ -1,12 +1,9 @@
 -- An event of a run maps pages that are not mapped and for which there are frames, and unmaps mapped ones.
-use Rattle.std.proofs.Common.{◌≡◌, ◌≢◌, ℕ, zero, suc, ◌+◌, ◌-◌, ◌*◌, ◌/◌, ◌^◌, ◌<◌, ◌≤◌, Bool, true, false, List, [], ◌∷◌, ◌++◌, length, Option, Some, None, refl, sym, ap, ◌∙◌, subst, arith, if◌then◌else◌}
-use Rattle.std.proofs.Math.Logic.{∥∥₁_elim}
-use denote.Struct.Props.{props}
+use Rattle.std.proofs.Common.{◌≡◌, ◌≢◌, ℕ, zero, suc, ◌+◌, ◌-◌, ◌*◌, ◌<◌, ◌≤◌, Bool, true, false, List, [], ◌∷◌, length, Some, None, refl, sym, ap, ◌∙◌, subst, arith, if◌then◌else◌}
 use mathlib.Core.Option.{some, some-ne-none}
 use lib.ListN.{get_elem?}
 use Rattle.pl_base.specs.Pages.{EachPage, count_below}
 use Rattle.pl_event.specs.declared.event.Kind.{Kind}
-use Rattle.pl_event.specs.declared.event.Kind.TheVariants.{Mp, Um}
 use Rattle.pl_event.specs.declared.log.Line.{Line}
 use Rattle.pl_event.specs.declared.log.Log.{Log}
 use Rattle.pl_event.specs.declared.log.Record.{Record}
@@ -20,9 +17,9 @@ use Rattle.lifeguard.specs.Rules.{Rules}
 use Rattle.lifeguard.specs.State.{Bytes, is_in, replaced}
 use Rattle.order_core.specs.Course.{course_of}
 use Rattle.order_core.specs.Lawful.{IsLawful}
-use Rattle.order_core.specs.Shapes.{Shape, after_shapes}
+use Rattle.order_core.specs.Shapes.{after_shapes}
 use Rattle.shadow_frames.specs.Frames.{lowest_free, map_page, pages_from, unmap_page}
-use Rattle.shadow_frames.specs.Words.{IsFilledWith, WordsRepresent, directory_word, has_page, is_there, is_used, mapped_pages}
+use Rattle.shadow_frames.specs.Words.{IsFilledWith, WordsRepresent, has_page, is_there, is_used, mapped_pages}
 use Rattle.shadow_frames.proofs.Free.{free_frame}
 use Rattle.shadow_frames.proofs.Many.{all_counted, all_mapped, all_unmapped}
 use Rattle.shadow_frames.proofs.MappedPages.{no_page, page_replaced, pages_is, some_page}
@@ -93,7 +90,7 @@ module _ (w : ℕ → ℕ) (bytes : Bytes) (st : WordsRepresent w bytes) (first 
       let next : WordsRepresent u (replaced None (first * 4096) (i * 4096) bytes) = all_unmapped first bytes w i st (omega arith) some in
       let out : is_in first i (first + i) ≡ false = off_span first i (first + i) (λ p q. omega arith) in
       let has : has_page (replaced None (first * 4096) (i * 4096) bytes) (first + i) ≡ true = page_replaced None first i bytes (first + i)
-          ∙ (ap (λ (b : Bool). if b then is_there None else has_page bytes (first + i)) out ∙ each (first + i) (omega arith) (omega arith)) in
+      ∙ (ap (λ (b : Bool). if b then is_there None else has_page bytes (first + i)) out ∙ each (first + i) (omega arith) (omega arith)) in
       let there : u (17 + (first + i)) ≢ 0 = some_page u (replaced None (first * 4096) (i * 4096) bytes) next (first + i) (omega arith) has in
       let one : u (17 + (first + i)) ≡ u (17 + (first + i)) - 1 + 1 = one_less (u (17 + (first + i))) there in
       (there, next.low (first + i) (omega arith), next.marked (first + i) (u (17 + (first + i)) - 1) (omega arith) one)

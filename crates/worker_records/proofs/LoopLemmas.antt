@@ -1,5 +1,5 @@
 -- Blocks or pages, one after the other: what is due at each, and what is made after it.
-use Rattle.std.proofs.Common.{◌≡◌, ℕ, zero, suc, ◌+◌, ◌-◌, ◌<◌, ◌≤◌, List, [], ◌∷◌, ◌++◌, length, refl, sym, ap, ◌∙◌, subst, arith, append_assoc, length-append}
+use Rattle.std.proofs.Common.{◌≡◌, ℕ, zero, suc, ◌+◌, ◌-◌, ◌<◌, List, [], ◌++◌, length, sym, ap, ◌∙◌, subst, arith, append_assoc, length-append}
 use Rattle.std.proofs.lemmas.List.{append-nil}
 use Rattle.pl_event.specs.declared.event.Kind.{Kind}
 use Rattle.order_core.specs.Course.{Planned}
@@ -8,7 +8,8 @@ use Rattle.guard_table.specs.declared.view.View.{View}
 use Rattle.shadow_frames.specs.Frames.{pages_from}
 use Rattle.shadow_frames.proofs.Many.{after_append, pages_more}
 use Rattle.worker_laws.specs.Runs.{Run}
-use Rattle.worker_records.specs.Alerts.{IsAmid, IsDue, Midst, made}
+use Rattle.worker_records.specs.Alerts.{IsAmid}
+use Rattle.worker_records.specs.Shapes.{IsDue, Midst, made}
 use Rattle.worker_records.proofs.ShapeLemmas.{due_first, due_rest, made_both}
 
 -- a record none of whose operations is made

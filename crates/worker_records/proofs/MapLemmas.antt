@@ -1,5 +1,5 @@
 -- The pages of an event, one after the other.
-use Rattle.std.proofs.Common.{◌≡◌, ◌≢◌, ℕ, zero, suc, ◌+◌, ◌-◌, ◌*◌, ◌/◌, ◌^◌, ◌<◌, ◌≤◌, Bool, true, false, List, [], ◌∷◌, ◌++◌, length, refl, sym, ap, ◌∙◌, subst, arith, length-append}
+use Rattle.std.proofs.Common.{◌≡◌, ◌≢◌, ℕ, zero, suc, ◌+◌, ◌-◌, ◌*◌, ◌<◌, ◌≤◌, true, false, List, ◌++◌, length, refl, sym, ap, ◌∙◌, subst, arith, length-append}
 use Rattle.std.proofs.Math.Logic.{∥∥₁_elim}
 use Rattle.std.proofs.Math.Nat.{mul_comm, suc-mul}
 use denote.Struct.Props.{props}
@@ -17,8 +17,9 @@ use Rattle.shadow_frames.specs.Frames.{lowest_free, map_page, pages_from, unmap_
 use Rattle.shadow_frames.specs.Words.{WordsRepresent, all_nibbles, directory_word, is_used}
 use Rattle.shadow_frames.proofs.Mapping.{frame_length}
 use Rattle.shadow_frames.proofs.NibbleLemmas.{all_same}
-use Rattle.worker_laws.specs.Runs.{IsRun, Run, before}
-use Rattle.worker_records.specs.Alerts.{IsAmid, IsDue, Midst, made}
+use Rattle.worker_laws.specs.Runs.{Run, before}
+use Rattle.worker_records.specs.Alerts.{IsAmid}
+use Rattle.worker_records.specs.Shapes.{IsDue, Midst, made}
 use Rattle.worker_records.specs.Places.{run_at}
 use Rattle.worker_records.proofs.KeptPages.{frame_free, kept, page_mapped}
 use Rattle.worker_records.proofs.LoopLemmas.{due_at, made_more, midst_at, whole, whole_due, words_at}
@@ -49,11 +50,12 @@ module _ (page : (ℕ → ℕ) → ℕ → List Shape) (k : ℕ) (each : (w : �
 
   pub page_due : (m : Midst) × IsDue plan t number op (page m.words (first + i)) m × (m.words ≡ words_at page (before p v.hart number).words first i)
   page_due =
-      let d = due_at page plan v number (whole p event (before p v.hart number).words) first count (whole_due plan p v number event (before p v.hart number).words (pages_from page (before p v.hart number).words first count) is_plan amid) i lt in
-      (midst_at page plan v number (whole p event (before p v.hart number).words) first count (whole_due plan p v number event (before p v.hart number).words (pages_from page (before p v.hart number).words first count) is_plan amid) i,
-      subst (λ (z : View). IsDue plan z number op (page (words_at page (before p v.hart number).words first i) (first + i)) (midst_at page plan v number (whole p event (before p v.hart number).words) first count (whole_due plan p v number event (before p v.hart number).words (pages_from page (before p v.hart number).words first count) is_plan amid) i)) (sym is_t)
-      (subst (λ (z : ℕ). IsDue plan (made (pages_from page (before p v.hart number).words first i) v) number z (page (words_at page (before p v.hart number).words first i) (first + i)) (midst_at page plan v number (whole p event (before p v.hart number).words) first count (whole_due plan p v number event (before p v.hart number).words (pages_from page (before p v.hart number).words first count) is_plan amid) i)) count_is d),
-      refl)
+      let d = due_at page plan v number (whole p event (before p v.hart number).words) first count (whole_due plan p v number event (before p v.hart number).words (pages_from page (before p v.hart number).words first count) is_plan amid) i lt in (
+        midst_at page plan v number (whole p event (before p v.hart number).words) first count (whole_due plan p v number event (before p v.hart number).words (pages_from page (before p v.hart number).words first count) is_plan amid) i,
+        subst (λ (z : View). IsDue plan z number op (page (words_at page (before p v.hart number).words first i) (first + i)) (midst_at page plan v number (whole p event (before p v.hart number).words) first count (whole_due plan p v number event (before p v.hart number).words (pages_from page (before p v.hart number).words first count) is_plan amid) i)) (sym is_t)
+            (subst (λ (z : ℕ). IsDue plan (made (pages_from page (before p v.hart number).words first i) v) number z (page (words_at page (before p v.hart number).words first i) (first + i)) (midst_at page plan v number (whole p event (before p v.hart number).words) first count (whole_due plan p v number event (before p v.hart number).words (pages_from page (before p v.hart number).words first count) is_plan amid) i)) count_is d),
+        refl,
+      )
 
 module _ (rules : Rules) (v : View) (number page count : ℕ) (valid : IsPageRange page count) (plan : Planned) (is_plan : (run_at rules v).plan ≡ plan) (i : ℕ) (lt : i < count) (t : View) where
   abbrev p : Run
@@ -76,9 +78,12 @@ module _ (rules : Rules) (v : View) (number page count : ℕ) (valid : IsPageRan
 
     pub map_now : (m : Midst) × IsDue plan t number (266 * i) (map_page filling m.words (page + i)) m × (lowest_free m.words < 512) × (is_used m.words (lowest_free m.words) ≡ false)
     map_now =
-        let d = page_due maps 266 (map_length (all_nibbles (rules.page_state Data))) p v number (Mp page count) page count amid plan is_plan i lt t is_t (266 * i) refl in
-        (d.0, subst (λ (z : ℕ). IsDue plan t number (266 * i) (map_page z d.0.words (page + i)) d.0) (sym is_filling) d.1,
-        subst (λ (z : ℕ → ℕ). lowest_free z < 512) (sym d.2) free.0, subst (λ (z : ℕ → ℕ). is_used z (lowest_free z) ≡ false) (sym d.2) free.1)
+        let d = page_due maps 266 (map_length (all_nibbles (rules.page_state Data))) p v number (Mp page count) page count amid plan is_plan i lt t is_t (266 * i) refl in (
+          d.0,
+          subst (λ (z : ℕ). IsDue plan t number (266 * i) (map_page z d.0.words (page + i)) d.0) (sym is_filling) d.1,
+          subst (λ (z : ℕ → ℕ). lowest_free z < 512) (sym d.2) free.0,
+          subst (λ (z : ℕ → ℕ). is_used z (lowest_free z) ≡ false) (sym d.2) free.1,
+        )
 
     pub map_next : (u : View) → ((m : Midst) → IsDue plan t number (266 * i) (map_page filling m.words (page + i)) m → u ≡ made (map_page filling m.words (page + i)) t) → u ≡ made (pages_from maps w page (i + 1)) v
     map_next u is =
@@ -95,9 +100,13 @@ module _ (rules : Rules) (v : View) (number page count : ℕ) (valid : IsPageRan
 
     pub unmap_now : (m : Midst) × IsDue plan t number (4 * i) (unmap_page m.words (page + i)) m × (m.words (directory_word (page + i)) ≢ 0) × (m.words (directory_word (page + i)) ≤ 512) × (is_used m.words (m.words (directory_word (page + i)) - 1) ≡ true)
     unmap_now =
-        let d = page_due unmap_page 4 unmap_length p v number (Um page count) page count amid plan is_plan i lt t is_t (4 * i) refl in
-        (d.0, d.1, subst (λ (z : ℕ → ℕ). z (17 + (page + i)) ≢ 0) (sym d.2) mapped.0, subst (λ (z : ℕ → ℕ). z (17 + (page + i)) ≤ 512) (sym d.2) mapped.1,
-        subst (λ (z : ℕ → ℕ). is_used z (z (17 + (page + i)) - 1) ≡ true) (sym d.2) mapped.2)
+        let d = page_due unmap_page 4 unmap_length p v number (Um page count) page count amid plan is_plan i lt t is_t (4 * i) refl in (
+          d.0,
+          d.1,
+          subst (λ (z : ℕ → ℕ). z (17 + (page + i)) ≢ 0) (sym d.2) mapped.0,
+          subst (λ (z : ℕ → ℕ). z (17 + (page + i)) ≤ 512) (sym d.2) mapped.1,
+          subst (λ (z : ℕ → ℕ). is_used z (z (17 + (page + i)) - 1) ≡ true) (sym d.2) mapped.2,
+        )
 
     pub unmap_next : (u : View) → ((m : Midst) → IsDue plan t number (4 * i) (unmap_page m.words (page + i)) m → u ≡ made (unmap_page m.words (page + i)) t) → u ≡ made (pages_from unmap_page w page (i + 1)) v
     unmap_next u is =

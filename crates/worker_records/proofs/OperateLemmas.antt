@@ -1,5 +1,5 @@
 -- An event all of whose operations are made.
-use Rattle.std.proofs.Common.{◌≡◌, ℕ, ◌+◌, ◌-◌, ◌<◌, ◌≤◌, List, [], ◌++◌, length, refl, sym, ap, ◌∙◌, subst, arith}
+use Rattle.std.proofs.Common.{◌≡◌, ℕ, ◌+◌, ◌-◌, ◌<◌, [], length, sym, ap, ◌∙◌, subst, arith}
 use Rattle.std.specs.Prelude.{count_by}
 use Rattle.std.proofs.lemmas.List.{append-nil}
 use Rattle.std.proofs.Math.Logic.{∥∥₁_elim}
@@ -7,13 +7,14 @@ use denote.Struct.Props.{props}
 use Rattle.pl_event.specs.declared.event.Kind.{Kind}
 use Rattle.pl_event.specs.Records.{line_number}
 use Rattle.pl_event.specs.Valid.{HasValidFields}
-use Rattle.order_core.specs.Shapes.{Shape, after_shapes}
+use Rattle.order_core.specs.Shapes.{after_shapes}
 use Rattle.guard_table.specs.declared.view.View.{View}
 use Rattle.shadow_frames.specs.Words.{WordsRepresent}
 use Rattle.shadow_layout.proofs.Sound.{few_operations}
 use Rattle.worker_laws.specs.Runs.{Run, before, shapes_at}
 use Rattle.worker_records.specs.Accesses.{HasWritten}
-use Rattle.worker_records.specs.Alerts.{IsAmid, made}
+use Rattle.worker_records.specs.Alerts.{IsAmid}
+use Rattle.worker_records.specs.Shapes.{made}
 use Rattle.worker_records.proofs.FieldLemmas.{valid_fields}
 use Rattle.worker_records.proofs.ShapeLemmas.{amid_more}
 
@@ -44,7 +45,10 @@ module _ (p : Run) (v u : View) (number : ℕ) (kind : Kind) (amid : IsAmid p v 
     }
 
     pub whole_made : (w : ℕ → ℕ) × (op : ℕ) × IsAmid p u number op kind w [] × (op < 4294967295)
-    whole_made = (after_shapes (before p v.hart number).words (shapes_at p v.hart number kind), 0 + length (shapes_at p v.hart number kind),
-        subst (λ (z : View). IsAmid p z number (0 + length (shapes_at p v.hart number kind)) kind (after_shapes (before p v.hart number).words (shapes_at p v.hart number kind)) []) (sym made_all)
-        (amid_more p number kind (shapes_at p v.hart number kind) [] v 0 (before p v.hart number).words (subst (IsAmid p v number 0 kind (before p v.hart number).words) (sym (append-nil (shapes_at p v.hart number kind))) amid)),
-        (let l : length (shapes_at p v.hart number kind) < 4294967295 = few in omega (arith, l)))
+    whole_made = (
+      after_shapes (before p v.hart number).words (shapes_at p v.hart number kind),
+      0 + length (shapes_at p v.hart number kind),
+      subst (λ (z : View). IsAmid p z number (0 + length (shapes_at p v.hart number kind)) kind (after_shapes (before p v.hart number).words (shapes_at p v.hart number kind)) []) (sym made_all)
+          (amid_more p number kind (shapes_at p v.hart number kind) [] v 0 (before p v.hart number).words (subst (IsAmid p v number 0 kind (before p v.hart number).words) (sym (append-nil (shapes_at p v.hart number kind))) amid)),
+      (let l : length (shapes_at p v.hart number kind) < 4294967295 = few in omega (arith, l)),
+    )

@@ -1,5 +1,5 @@
 -- The operations of a page that gets a frame or whose frame is freed, one by one.
-use Rattle.std.proofs.Common.{◌≡◌, ◌≢◌, ℕ, zero, suc, ◌+◌, ◌-◌, ◌*◌, ◌/◌, ◌%◌, ◌^◌, ◌<◌, ◌≤◌, Bool, true, false, nat_lt, lt-ltb, List, [], ◌∷◌, ◌++◌, length, Option, Some, None, refl, sym, ap, ◌∙◌, subst, arith, if◌then◌else◌}
+use Rattle.std.proofs.Common.{◌≡◌, ℕ, zero, suc, ◌+◌, ◌-◌, ◌%◌, ◌^◌, ◌<◌, Bool, true, false, nat_lt, lt-ltb, List, [], ◌∷◌, ◌++◌, length, Option, Some, None, refl, sym, ap, ◌∙◌, subst, arith, if◌then◌else◌}
 use Rattle.order_core.specs.Core.{put}
 use Rattle.order_core.specs.Course.{Planned}
 use Rattle.order_core.specs.Shapes.{Shape, after_shapes}
@@ -7,7 +7,8 @@ use Rattle.guard_table.specs.declared.view.View.{View}
 use Rattle.guard_table.specs.Views.{wrote}
 use Rattle.shadow_frames.specs.Frames.{fills, frame_or_none, lowest_free, map_page, reads, unmap_page, writes}
 use Rattle.shadow_frames.specs.Words.{directory_word, frame_word, map_word}
-use Rattle.worker_records.specs.Alerts.{IsDue, Midst, made, place_shapes, reads_from}
+use Rattle.worker_records.specs.Shapes.{IsDue, Midst, made}
+use Rattle.worker_records.specs.Pages.{place_shapes, reads_from}
 use Rattle.worker_records.proofs.ShapeLemmas.{DueFrom, due_first, due_rest, first_of, like, made_both, made_none, made_past_read, made_past_write, past_read, past_write}
 
 -- ---- reads of words, one after the other
@@ -52,9 +53,10 @@ fill_at plan v number op m first value n i lt due =
     = subst (λ (z : List Shape). IsDue plan v number op z m) (ap (fills first value) e ∙ split_fills value i (suc (n - suc i)) first) due in
     let rest : IsDue plan (made (fills first value i) v) number (op + i) (writes (first + i) (λ _. value) ∷ fills (suc (first + i)) value (n - suc i)) (record m { words = after_shapes m.words (fills first value i) })
     = subst (λ (z : ℕ). IsDue plan (made (fills first value i) v) number (op + z) (writes (first + i) (λ _. value) ∷ fills (suc (first + i)) value (n - suc i)) (record m { words = after_shapes m.words (fills first value i) })) (fills_length value i first)
-    (due_rest plan v number op m (fills first value i) (writes (first + i) (λ _. value) ∷ fills (suc (first + i)) value (n - suc i)) all) in
-    (record m { words = after_shapes m.words (fills first value i); rest = fills (suc (first + i)) value (n - suc i) ++ m.rest },
-    due_first plan (made (fills first value i) v) number (op + i) (record m { words = after_shapes m.words (fills first value i) }) (writes (first + i) (λ _. value) ∷ []) (fills (suc (first + i)) value (n - suc i)) rest)
+    (due_rest plan v number op m (fills first value i) (writes (first + i) (λ _. value) ∷ fills (suc (first + i)) value (n - suc i)) all) in (
+      record m { words = after_shapes m.words (fills first value i); rest = fills (suc (first + i)) value (n - suc i) ++ m.rest },
+      due_first plan (made (fills first value i) v) number (op + i) (record m { words = after_shapes m.words (fills first value i) }) (writes (first + i) (λ _. value) ∷ []) (fills (suc (first + i)) value (n - suc i)) rest,
+    )
 
 pub fill_more : (first value i : ℕ) (v t u : View) → t ≡ made (fills first value i) v → u ≡ wrote t → u ≡ made (fills first value (i + 1)) v
 fill_more first value i v t u was is = is ∙ (ap wrote was ∙ (sym (made_none (wrote (made (fills first value i) v))) ∙ (made_past_write (first + i) (λ _. value) [] (made (fills first value i) v)

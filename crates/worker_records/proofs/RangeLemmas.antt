@@ -1,5 +1,5 @@
 -- The blocks of a range, one after the other.
-use Rattle.std.proofs.Common.{◌≡◌, ◌≢◌, ℕ, zero, suc, ◌+◌, ◌-◌, ◌*◌, ◌/◌, ◌%◌, ◌^◌, ◌<◌, ◌≤◌, Bool, true, false, List, [], ◌∷◌, ◌++◌, length, Option, Some, None, find, refl, sym, ap, ◌∙◌, subst, arith}
+use Rattle.std.proofs.Common.{◌≡◌, ℕ, ◌+◌, ◌-◌, ◌*◌, ◌/◌, ◌%◌, ◌^◌, ◌<◌, ◌≤◌, Bool, List, [], ◌++◌, length, Option, find, refl, sym, ap, ◌∙◌, subst, arith}
 use Rattle.std.specs.Prelude.{unwrap_or}
 use Rattle.std.proofs.lemmas.List.{append-nil}
 use Rattle.std.proofs.Math.Logic.{∥∥₁_elim, ∥∥₁_map}
@@ -8,13 +8,12 @@ use Rattle.pl_event.specs.declared.event.Kind.{Kind}
 use Rattle.pl_event.specs.Records.{line_number}
 use Rattle.pl_event.specs.Valid.{IsByteRange}
 use Rattle.lifeguard.specs.declared.guard.RangeKind.{RangeKind}
-use Rattle.lifeguard.specs.Rules.{Rules}
 use Rattle.lifeguard.specs.State.{Bytes, nibble_at, span}
 use Rattle.order_core.specs.Course.{Planned}
 use Rattle.order_core.specs.Shapes.{Shape}
 use Rattle.guard_table.specs.declared.view.View.{View}
 use Rattle.shadow_frames.specs.Frames.{pages_from}
-use Rattle.shadow_frames.specs.Words.{WordsRepresent, nibble_of}
+use Rattle.shadow_frames.specs.Words.{WordsRepresent}
 use Rattle.shadow_frames.proofs.Many.{pages_length}
 use Rattle.shadow_layout.specs.Operations.{block_directory, blocks_of, change_block, read_block}
 use Rattle.shadow_layout.proofs.Blocks.{blocks_done, changes_length, done_up_to, reads_leave, reads_length}
@@ -22,7 +21,9 @@ use Rattle.worker_laws.specs.Runs.{IsRun, Moment, Run, before}
 use Rattle.worker_laws.proofs.Steady.{nibble_below}
 use Rattle.worker_records.specs.declared.blocks.BlockFound.{BlockFound}
 use Rattle.worker_records.specs.declared.ranges.ByteRange.{ByteRange}
-use Rattle.worker_records.specs.Alerts.{IsAmid, IsDue, IsMadeBlock, IsSoundBlock, Midst, found_in, made, or_else, part_of, part_shapes}
+use Rattle.worker_records.specs.Alerts.{IsAmid}
+use Rattle.worker_records.specs.Shapes.{IsDue, Midst, made}
+use Rattle.worker_records.specs.Blocks.{IsMadeBlock, IsSoundBlock, found_in, or_else, part_of, part_shapes}
 use Rattle.worker_records.specs.Words.{TellsOf}
 use Rattle.worker_records.proofs.BlockLemmas.{Tells, bytes_in, found_nibble, frame_low, more_found, old_bytes, part_block, part_is, part_narrow, part_near, part_tells, sound_block}
 use Rattle.worker_records.proofs.LoopLemmas.{count_more, due_at, made_more, midst_at, whole, whole_due, words_at}
@@ -32,8 +33,11 @@ abbrev RepresentsAt : (ℕ → ℕ) → Bytes → ℕ → Type 0
 RepresentsAt w bytes b = (old : Bytes) × WordsRepresent w old × ((a : ℕ) → a / 16 ≡ b → old a ≡ bytes a)
 
 tells_of : (w : ℕ → ℕ) (bytes : Bytes) (b : ℕ) → ((a : ℕ) → nibble_at bytes a < 8) → b < 2 ^ 20 → ∥ RepresentsAt w bytes b ∥₁ → Tells w bytes b
-tells_of w bytes b small low at j lt = (∥∥₁_elim at (hlevel props) (λ (t : RepresentsAt w bytes b).
-    ap (λ (z : Option ℕ). unwrap_or z 0) (sym (t.2 (16 * b + j) (omega arith))) ∙ found_nibble w t.0 t.1 b low j lt), small (16 * b + j))
+tells_of w bytes b small low at j lt = (
+  ∥∥₁_elim at (hlevel props) (λ (t : RepresentsAt w bytes b).
+      ap (λ (z : Option ℕ). unwrap_or z 0) (sym (t.2 (16 * b + j) (omega arith))) ∙ found_nibble w t.0 t.1 b low j lt),
+  small (16 * b + j),
+)
 
 low_of : (w : ℕ → ℕ) (bytes : Bytes) (b : ℕ) → b < 2 ^ 20 → ∥ RepresentsAt w bytes b ∥₁ → w (block_directory b) ≤ 512
 low_of w bytes b low at = ∥∥₁_elim at (hlevel props) (λ (t : RepresentsAt w bytes b). frame_low w t.0 t.1 b low)
@@ -126,10 +130,11 @@ read_short w b = subst (λ (n : ℕ). n ≤ 3) (ap length (append-nil (read_bloc
 
 pub change_still : (p : Run) (run : IsRun p) (v : View) (number : ℕ) (kind : RangeKind) (addr len i : ℕ) → addr / 16 + i ≤ 2 ^ 20
     → ∥ RepresentsAt (words_at (change_block (λ j old. p.rules.range_state kind old) addr len) (before p v.hart number).words (addr / 16) i) (before p v.hart number).state.bytes (addr / 16 + i) ∥₁
-change_still p run v number kind addr len i room = ∥∥₁_map (run.represents at) (λ (st : WordsRepresent (before p v.hart number).words (before p v.hart number).state.bytes).
-    (done_up_to f addr len (before p v.hart number).state.bytes (addr / 16) i,
-    blocks_done f addr len (before p v.hart number).state.bytes (addr / 16) (λ j old lt. run.laws.range_below kind old lt) (run.range at).nibbles (before p v.hart number).words i st room,
-    λ a own. old_bytes f addr len (before p v.hart number).state.bytes (addr / 16) i a own))
+change_still p run v number kind addr len i room = ∥∥₁_map (run.represents at) (λ (st : WordsRepresent (before p v.hart number).words (before p v.hart number).state.bytes). (
+  done_up_to f addr len (before p v.hart number).state.bytes (addr / 16) i,
+  blocks_done f addr len (before p v.hart number).state.bytes (addr / 16) (λ j old lt. run.laws.range_below kind old lt) (run.range at).nibbles (before p v.hart number).words i st room,
+  λ a own. old_bytes f addr len (before p v.hart number).state.bytes (addr / 16) i a own,
+))
   where
     at : ℕ
     at = line_number p.plan.log.lines v.hart number - 1
@@ -189,8 +194,10 @@ module _ (p : Run) (v : View) (number : ℕ) (event : Kind) (range : ByteRange) 
         Changes u found = (m : Midst) → IsDue plan t number op (part_shapes p.rules kind m.words part) m → IsMadeBlock (part_shapes p.rules kind m.words part) (found_in m.words (part.addr / 16)) t u found
 
         pub change_near : (part.addr < 2 ^ 24) × (part.addr % 16 + part.len ≤ 16)
-        change_near = (near change p v number event range valid amid plan is_plan (change_short (λ j old. p.rules.range_state kind old) range.addr range.len) change_at i lt t op is_t is_op part is_part,
-            narrow change p v number event range valid amid plan is_plan (change_short (λ j old. p.rules.range_state kind old) range.addr range.len) change_at i lt t op is_t is_op part is_part)
+        change_near = (
+          near change p v number event range valid amid plan is_plan (change_short (λ j old. p.rules.range_state kind old) range.addr range.len) change_at i lt t op is_t is_op part is_part,
+          narrow change p v number event range valid amid plan is_plan (change_short (λ j old. p.rules.range_state kind old) range.addr range.len) change_at i lt t op is_t is_op part is_part,
+        )
 
         pub change_next : (u : View) (found : BlockFound) → Changes u found → IsNextBlock change p v number range i op u part found
         change_next u found each = let is = each midst_i due_i in record {

@@ -1,7 +1,6 @@
 -- The operations of a record with many: what is due, and what is left after some of it.
-use Rattle.std.proofs.Common.{◌≡◌, ℕ, suc, ◌+◌, ◌^◌, ◌<◌, ◌≤◌, Bool, true, false, List, [], ◌∷◌, ◌++◌, length, refl, sym, ap, ◌∙◌, subst, arith, append_assoc, length-append, if◌then◌else◌}
+use Rattle.std.proofs.Common.{◌≡◌, ℕ, suc, ◌+◌, ◌^◌, ◌<◌, Bool, true, false, List, [], ◌∷◌, ◌++◌, length, refl, sym, ap, ◌∙◌, subst, arith, append_assoc, length-append, if◌then◌else◌}
 use Rattle.std.specs.Prelude.{count_by}
-use Rattle.std.proofs.lemmas.List.{append-nil}
 use Rattle.std.proofs.lemmas.List.Sums.{sum_by-append}
 use Rattle.pl_event.specs.declared.event.Kind.{Kind}
 use Rattle.order_core.specs.declared.course.Op.{Op}
@@ -19,7 +18,8 @@ use Rattle.shadow_frames.proofs.Many.{after_append}
 use Rattle.worker_laws.specs.Runs.{Run, before}
 use Rattle.worker_laws.proofs.Passing.{after_read, after_write, may_read, may_write}
 use Rattle.worker_laws.proofs.Reading.{whole_word}
-use Rattle.worker_records.specs.Alerts.{IsAmid, IsDue, Midst, made}
+use Rattle.worker_records.specs.Alerts.{IsAmid}
+use Rattle.worker_records.specs.Shapes.{IsDue, Midst, made}
 use Rattle.worker_records.specs.Steps.{IsReadOf, IsWriteOf}
 
 -- ---- one operation
@@ -185,9 +185,11 @@ module _ (plan : Planned) (v : View) (number op : ℕ) (w : ℕ → ℕ) where
   past_read word ss t = (t.0, subst (λ (z : View). IsDue plan z number (op + 1) ss t.0) (made_read word v) (due_rest plan v number op t.0 (reads word ∷ []) ss t.1), t.2)
 
   pub past_write : (word : ℕ) (change : ℕ → ℕ) (ss : List Shape) → DueFrom plan v number op (writes word change ∷ ss) w → DueFrom plan (wrote v) number (op + 1) ss (put w word (change (w word)))
-  past_write word change ss t = (record t.0 { words = put t.0.words word (change (t.0.words word)) },
-      subst (λ (z : View). IsDue plan z number (op + 1) ss (record t.0 { words = put t.0.words word (change (t.0.words word)) })) (made_write word change v) (due_rest plan v number op t.0 (writes word change ∷ []) ss t.1),
-      ap (λ (z : ℕ → ℕ). put z word (change (z word))) t.2)
+  past_write word change ss t = (
+    record t.0 { words = put t.0.words word (change (t.0.words word)) },
+    subst (λ (z : View). IsDue plan z number (op + 1) ss (record t.0 { words = put t.0.words word (change (t.0.words word)) })) (made_write word change v) (due_rest plan v number op t.0 (writes word change ∷ []) ss t.1),
+    ap (λ (z : ℕ → ℕ). put z word (change (z word))) t.2,
+  )
 
   pub like : (ss ts : List Shape) → ss ≡ ts → DueFrom plan v number op ss w → DueFrom plan v number op ts w
   like ss ts e t = subst (λ (z : List Shape). DueFrom plan v number op z w) e t

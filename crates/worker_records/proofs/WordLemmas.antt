@@ -1,10 +1,10 @@
 -- What a word tells of the bytes of an access, and what a store makes of it.
-use Rattle.std.proofs.Common.{◌≡◌, ℕ, zero, suc, ◌+◌, ◌-◌, ◌*◌, ◌/◌, ◌%◌, ◌^◌, ◌<◌, ◌≤◌, ◌⊎◌, inl, inr, Bool, true, false, ◌&&◌, nat_le, nat_lt, Some, None, find, refl, sym, ap, ◌∙◌, subst, arith, pow-suc, if◌then◌else◌}
+use Rattle.std.proofs.Common.{◌≡◌, ℕ, zero, suc, ◌+◌, ◌-◌, ◌*◌, ◌/◌, ◌%◌, ◌^◌, ◌<◌, ◌≤◌, ◌⊎◌, inl, inr, Bool, true, false, Some, None, find, sym, ap, ◌∙◌, arith, pow-suc, if◌then◌else◌}
 use mathlib.Core.Logic.{dite}
 use native.Mathlib.Decide.{dec_le}
 use Rattle.lifeguard.specs.Rules.{Rules}
 use Rattle.lifeguard.specs.Plain.{mask_bit}
-use Rattle.lifeguard.specs.State.{Bytes, is_in, nibble_at, span}
+use Rattle.lifeguard.specs.State.{is_in, span}
 use Rattle.lifeguard.proofs.CellLemmas.{find_here, find_next, find_none}
 use Rattle.pl_base.specs.declared.widths.StoreWidth.{StoreWidth}
 use Rattle.pl_base.specs.Widths.{store_bytes}

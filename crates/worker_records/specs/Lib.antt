@@ -8,3 +8,6 @@ pub mod Accesses
 pub mod Reports
 pub mod Plain
 pub mod Alerts
+pub mod Shapes
+pub mod Blocks
+pub mod Pages

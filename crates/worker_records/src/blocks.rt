@@ -9,9 +9,9 @@ ghost use Rattle.shadow_frames.specs.Frames.{pages_from};
 ghost use Rattle.shadow_layout.specs.Operations as operations;
 ghost use Rattle.shadow_layout.specs.Operations.{blocks_of, range_shapes};
 ghost use Rattle.worker_laws.specs.Runs.{before};
-ghost use Rattle.worker_records.specs.Alerts as alerts;
-ghost use Rattle.worker_records.specs.Alerts.{IsAmid, IsDue, IsMadeBlock, IsSoundBlock, Midst, found_in, made};
-ghost use Rattle.worker_records.specs.Alerts.{or_else, part_shapes};
+ghost use Rattle.worker_records.specs.Alerts.{IsAmid};
+ghost use Rattle.worker_records.specs.Shapes.{IsDue, Midst, made};
+ghost use Rattle.worker_records.specs.Blocks.{IsMadeBlock, IsSoundBlock, found_in, or_else, part_shapes};
 ghost use Rattle.worker_records.specs.Places.{IsAt, run_at};
 ghost use Rattle.worker_records.specs.Words.{HasLowNibbles, TellsOf};
 
@@ -107,12 +107,18 @@ fn read_block<P: Plan>(
 }
 
 // The first byte that may not be touched, of those before or else of these.
-fn next_touched<L: Lifeguard>(found: Option<u32>, guard: L, word: u64, part: ByteRange) -> Option<u32>
+fn next_touched<L: Lifeguard>(
+    found: Option<u32>,
+    guard: L,
+    word: u64,
+    part: ByteRange,
+) -> Option<u32>
     requires near { part.addr < MEMORY_BYTES }
     requires narrow { part.addr % BLOCK_BYTES + part.len ≤ BLOCK_BYTES }
     requires low { HasLowNibbles word part.addr part.len }
     ensures { (bytes : Bytes) → TellsOf word bytes part.addr part.len
-        → result ≡ or_else found (find (λ a. (L.rules guard).bad_access (nibble_at bytes a)) (span part.addr part.len)) }
+        → let here = find (λ a. (L.rules guard).bad_access (nibble_at bytes a)) (span part.addr part.len) in
+        result ≡ or_else found here }
 {
     match found {
         Some(addr) => Some(addr),
@@ -126,7 +132,8 @@ fn next_sent<L: Lifeguard>(found: Option<u32>, guard: L, word: u64, part: ByteRa
     requires narrow { part.addr % BLOCK_BYTES + part.len ≤ BLOCK_BYTES }
     requires low { HasLowNibbles word part.addr part.len }
     ensures { (bytes : Bytes) → TellsOf word bytes part.addr part.len
-        → result ≡ or_else found (find (λ a. (L.rules guard).bad_value (nibble_at bytes a)) (span part.addr part.len)) }
+        → let here = find (λ a. (L.rules guard).bad_value (nibble_at bytes a)) (span part.addr part.len) in
+        result ≡ or_else found here }
 {
     match found {
         Some(addr) => Some(addr),

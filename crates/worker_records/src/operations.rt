@@ -37,11 +37,25 @@ pub fn operate<P: Plan, L: Lifeguard>(
 {
     match kind {
         Kind::Al { addr, len } => {
-            change_range(monitor, seat, guard, number, RangeKind::Al, ByteRange { addr, len });
+            change_range(
+                monitor,
+                seat,
+                guard,
+                number,
+                RangeKind::Al,
+                ByteRange { addr, len },
+            );
             Found::NONE
         }
         Kind::Fr { addr, len } => {
-            change_range(monitor, seat, guard, number, RangeKind::Fr, ByteRange { addr, len });
+            change_range(
+                monitor,
+                seat,
+                guard,
+                number,
+                RangeKind::Fr,
+                ByteRange { addr, len },
+            );
             Found::NONE
         }
         Kind::Rd { addr, len } => {
@@ -52,11 +66,25 @@ pub fn operate<P: Plan, L: Lifeguard>(
             read_range(monitor, seat, guard, number, ByteRange { addr, len })
         }
         Kind::Mp { page, count } => {
-            map_pages(monitor, seat, guard, number, u32::from(page), u32::from(count));
+            map_pages(
+                monitor,
+                seat,
+                guard,
+                number,
+                u32::from(page),
+                u32::from(count),
+            );
             Found::NONE
         }
         Kind::Um { page, count } => {
-            unmap_pages(monitor, seat, guard, number, u32::from(page), u32::from(count));
+            unmap_pages(
+                monitor,
+                seat,
+                guard,
+                number,
+                u32::from(page),
+                u32::from(count),
+            );
             Found::NONE
         }
         Kind::Ld { .. }

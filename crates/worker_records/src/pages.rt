@@ -1,5 +1,5 @@
 //! Pages that get frames, and frames that are freed.
-ghost use Rattle.std.specs.Prelude.{◌≡◌, ◌≢◌, ℕ, ◌+◌, ◌-◌, ◌%◌, ◌<◌, ◌≤◌, false, slice_index, true};
+ghost use Rattle.std.specs.Prelude.{◌≡◌, ◌≢◌, ℕ, ◌+◌, ◌-◌, ◌%◌, ◌<◌, ◌≤◌, true, false, slice_index};
 ghost use Rattle.pl_base.specs.declared.layout.TheConstants.{MAX_MAPPED_PAGES, PAGE_COUNT};
 ghost use Rattle.pl_event.specs.declared.event.Kind.TheVariants.{Mp, Um};
 ghost use Rattle.pl_event.specs.declared.log.PageKind.TheVariants.{Data};
@@ -11,7 +11,9 @@ ghost use Rattle.shadow_frames.specs.Frames.{fills, lowest_free, pages_from};
 ghost use Rattle.shadow_frames.specs.Words.{bit, directory_word, frame_word, is_used, map_word};
 ghost use Rattle.shadow_frames.specs.Words as table;
 ghost use Rattle.worker_laws.specs.Runs.{before};
-ghost use Rattle.worker_records.specs.Alerts.{IsAmid, IsDue, Midst, made, place_shapes, reads_from};
+ghost use Rattle.worker_records.specs.Alerts.{IsAmid};
+ghost use Rattle.worker_records.specs.Shapes.{IsDue, Midst, made};
+ghost use Rattle.worker_records.specs.Pages.{place_shapes, reads_from};
 ghost use Rattle.worker_records.specs.Places.{IsAt, run_at};
 
 use crate::shapes::{read_next, write_next};
@@ -32,12 +34,12 @@ const UNMAP_OPERATIONS: u32 = 4;
 fn read_map<P: Plan>(monitor: &Monitor<P>, seat: &mut GuardSeat, number: u32, op: u32) -> [u64; 8]
     requires of { IsSeatOf P.planned monitor.now seat.old }
     requires few { op < 4294967280 }
-    requires due { (m : Midst)
-        × IsDue (P.planned (plan_of monitor.now)) (seat_view seat.old) number op (reads_from words.FRAME_MAP_START 8) m }
+    requires due { let v = seat_view seat.old in (m : Midst)
+        × IsDue (P.planned (plan_of monitor.now)) v number op (reads_from words.FRAME_MAP_START 8) m }
     ensures of { IsSeatOf P.planned monitor.now seat.new }
     ensures view { seat_view seat.new ≡ seat_view seat.old }
-    ensures map { (m : Midst)
-        → IsDue (P.planned (plan_of monitor.now)) (seat_view seat.old) number op (reads_from words.FRAME_MAP_START 8) m
+    ensures map { let v = seat_view seat.old in (m : Midst)
+        → IsDue (P.planned (plan_of monitor.now)) v number op (reads_from words.FRAME_MAP_START 8) m
         → (i : ℕ) → i < 8 → m.words (words.FRAME_MAP_START + i) ≡ slice_index result i }
 {
     let mut map = [0; 8];
@@ -94,8 +96,22 @@ fn put_page<P: Plan>(
     ensures view { seat_view seat.new ≡ made (place_shapes frame page filling) (seat_view seat.old) }
 {
     let bits = with_bit(bits, frame % 64);
-    write_next(monitor, seat, number, op, FRAME_MAP_START + frame / 64, bits);
-    write_next(monitor, seat, number, op + 1, DIRECTORY_START + page, u64::from(frame) + 1);
+    write_next(
+        monitor,
+        seat,
+        number,
+        op,
+        FRAME_MAP_START + frame / 64,
+        bits,
+    );
+    write_next(
+        monitor,
+        seat,
+        number,
+        op + 1,
+        DIRECTORY_START + page,
+        u64::from(frame) + 1,
+    );
     fill_frame(monitor, seat, number, op + 2, frame, filling);
 }
 
@@ -111,8 +127,8 @@ fn map_page<P: Plan>(
     requires of { IsSeatOf P.planned monitor.now seat.old }
     requires page { page < PAGE_COUNT }
     requires few { op < 4294967020 }
-    requires due { (m : Midst)
-        × IsDue (P.planned (plan_of monitor.now)) (seat_view seat.old) number op (frames.map_page filling m.words page) m
+    requires due { let v = seat_view seat.old in (m : Midst)
+        × IsDue (P.planned (plan_of monitor.now)) v number op (frames.map_page filling m.words page) m
         × (lowest_free m.words < MAX_MAPPED_PAGES) × (is_used m.words (lowest_free m.words) ≡ false) }
     ensures of { IsSeatOf P.planned monitor.now seat.new }
     ensures view { let v = seat_view seat.old in (m : Midst)
@@ -172,7 +188,14 @@ fn unmap_page<P: Plan>(monitor: &Monitor<P>, seat: &mut GuardSeat, number: u32, 
     let frame = directory as u32 - 1;
     let map = FRAME_MAP_START + frame / 64;
     let bits = read_next(monitor, seat, number, op + 1, map);
-    write_next(monitor, seat, number, op + 2, map, without_bit(bits, frame % 64));
+    write_next(
+        monitor,
+        seat,
+        number,
+        op + 2,
+        map,
+        without_bit(bits, frame % 64),
+    );
     write_next(monitor, seat, number, op + 3, DIRECTORY_START + page, 0);
 }
 

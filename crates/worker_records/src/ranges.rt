@@ -1,18 +1,11 @@
 //! Ranges of bytes, block by block.
-ghost use Rattle.std.specs.Prelude.{◌≡◌, ℕ, ◌+◌, ◌*◌, ◌/◌, ◌%◌, ◌<◌, ◌≤◌, find, length};
+ghost use Rattle.std.specs.Prelude.{◌≡◌, ◌+◌, ◌/◌, ◌%◌, ◌<◌, ◌≤◌};
 ghost use Rattle.pl_base.specs.declared.layout.TheConstants.{BLOCK_BYTES, MEMORY_BYTES};
 ghost use Rattle.pl_event.specs.Valid.{IsByteRange};
-ghost use Rattle.lifeguard.specs.Ranges.{AreNibbles};
-ghost use Rattle.lifeguard.specs.State.{Bytes, nibble_at, span};
-ghost use Rattle.guard_table.specs.Seats.{plan_of, seat_view, IsSeatOf};
-ghost use Rattle.shadow_frames.specs.Words.{WordsRepresent};
 ghost use Rattle.shadow_layout.specs.Operations.{blocks_of, changed_word};
-ghost use Rattle.shadow_layout.specs.Operations as operations;
-ghost use Rattle.worker_laws.specs.Runs.{before};
-ghost use Rattle.worker_records.specs.Alerts.{part_of};
-ghost use Rattle.worker_records.specs.Words.{HasLowNibbles, TellsOf};
+ghost use Rattle.worker_records.specs.Blocks.{part_of};
+ghost use Rattle.worker_records.specs.Words.{HasLowNibbles};
 
-use crate::state::Found;
 use lifeguard::{Lifeguard, RangeKind};
 use pl_base::layout::BLOCK_BYTES;
 use shadow_frames::{nibble, with_nibble};

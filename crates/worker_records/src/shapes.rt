@@ -3,7 +3,7 @@ ghost use Rattle.std.specs.Prelude.{◌≡◌, ℕ, [], ◌∷◌};
 ghost use Rattle.guard_table.specs.Seats.{plan_of, seat_view, IsSeatOf};
 ghost use Rattle.guard_table.specs.Views.{wrote};
 ghost use Rattle.shadow_frames.specs.Frames.{reads, writes};
-ghost use Rattle.worker_records.specs.Alerts.{IsDue, Midst};
+ghost use Rattle.worker_records.specs.Shapes.{IsDue, Midst};
 
 use crate::steps::{read, write};
 use guard_table::{GuardSeat, Monitor, Put};

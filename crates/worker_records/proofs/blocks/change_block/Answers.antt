@@ -1,4 +1,4 @@
-use Rattle.std.proofs.Common.{◌≡◌, ◌≢◌, ℕ, ◌+◌, ◌*◌, ◌/◌, ◌%◌, ◌<◌, ◌≤◌, List, [], ◌∷◌, refl, sym, ap, ◌∙◌, subst, arith}
+use Rattle.std.proofs.Common.{◌≡◌, ◌≢◌, ℕ, ◌+◌, ◌/◌, ◌%◌, ◌<◌, ◌≤◌, List, [], ◌∷◌, sym, ap, ◌∙◌, subst, arith}
 use Rattle.order_core.specs.Course.{Planned}
 use Rattle.order_core.specs.Shapes.{Shape}
 use Rattle.guard_table.specs.declared.view.View.{View}
@@ -7,7 +7,8 @@ use Rattle.guard_table.specs.Views.{wrote}
 use Rattle.shadow_frames.specs.Frames.{reads, writes}
 use Rattle.shadow_frames.specs.Words.{nibble_of, shadow_word}
 use Rattle.shadow_layout.specs.Operations.{block_directory, block_word, change_block, changed_word, on_block}
-use Rattle.worker_records.specs.Alerts.{IsDue, IsMadeBlock, IsSoundBlock, Midst, found_in, part_shapes}
+use Rattle.worker_records.specs.Shapes.{IsDue, Midst}
+use Rattle.worker_records.specs.Blocks.{IsMadeBlock, found_in}
 use Rattle.worker_records.proofs.BlockLemmas.{at_is, change_due, change_made, change_none, directory_due, directory_is, found_word, mapped_due, none_made}
 use Rattle.worker_records.proofs.ShapeLemmas.{DueFrom, first_of, found_due, past_read}
 use Rattle.worker_records.proofs.blocks.change_block.Goals as goal
@@ -61,8 +62,8 @@ pub read_next-directory-requires-clause-due : goal.read_next-directory-requires-
 read_next-directory-requires-clause-due g c =
     let t = c.requires.due in
     let d = directory_due (g.P.Plan.planned (plan_of c.args.monitor.now)) (seat_view c.args.seat.now) c.args.number c.args.op t.0.words (c.args.part.addr / 16) _
-        (change_due (g.P.Plan.planned (plan_of c.args.monitor.now)) (seat_view c.args.seat.now) c.args.number c.args.op t.0 (λ (i old : ℕ). (g.L.Lifeguard.rules c.args.guard).range_state c.args.kind old) c.args.part.addr c.args.part.len (c.args.part.addr / 16) t.1)
-        c.directory_word.result c.directory_word.ensures in
+    (change_due (g.P.Plan.planned (plan_of c.args.monitor.now)) (seat_view c.args.seat.now) c.args.number c.args.op t.0 (λ (i old : ℕ). (g.L.Lifeguard.rules c.args.guard).range_state c.args.kind old) c.args.part.addr c.args.part.len (c.args.part.addr / 16) t.1)
+    c.directory_word.result c.directory_word.ensures in
     (d.0, d.1)
 
 pub returns-then-directory-eq0-clause-made : goal.returns-then-directory-eq0-clause-made

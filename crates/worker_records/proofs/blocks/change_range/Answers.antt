@@ -1,16 +1,14 @@
 use Rattle.std.proofs.Common.{◌≡◌, ℕ, ◌+◌, ◌/◌, ◌^◌, ◌<◌, ◌≤◌, sym, ap, ◌∙◌, subst, arith}
-use Rattle.std.specs.Prelude.{Option}
 use Rattle.lifeguard.specs.State.{nibble_at}
 use Rattle.guard_table.specs.declared.view.View.{View}
 use Rattle.guard_table.specs.Seats.{plan_of, seat_view}
 use Rattle.log_plan.specs.Plans.{plan_of as log_plan_of}
 use Rattle.order_core.specs.declared.course.Course.{Course}
-use Rattle.order_core.specs.Course.{Planned}
 use Rattle.shadow_layout.specs.Operations.{blocks_of}
 use Rattle.worker_laws.specs.Runs.{Run, before}
-use Rattle.worker_records.specs.Alerts.{part_of}
+use Rattle.worker_records.specs.Blocks.{part_of}
 use Rattle.worker_records.specs.declared.ranges.ByteRange.{ByteRange}
-use Rattle.worker_records.specs.Places.{IsAt, run_at}
+use Rattle.worker_records.specs.Places.{run_at}
 use Rattle.worker_records.proofs.BlockLemmas.{all_found}
 use Rattle.worker_records.proofs.RangeLemmas.{change_few, change_found, change_next, change_now, change_small}
 use Rattle.worker_records.proofs.blocks.change_range.Goals as goal

@@ -1,7 +1,7 @@
 use Rattle.std.proofs.Common.{ℕ, find, sym, ap, ◌∙◌}
 use Rattle.std.specs.Prelude.{Option}
 use Rattle.lifeguard.specs.State.{nibble_at, span}
-use Rattle.worker_records.specs.Alerts.{or_else}
+use Rattle.worker_records.specs.Blocks.{or_else}
 use Rattle.worker_records.proofs.blocks.next_sent.Goals as goal
 
 pub returns-in-None : goal.returns-in-None

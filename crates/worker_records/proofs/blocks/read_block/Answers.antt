@@ -7,7 +7,8 @@ use Rattle.shadow_frames.specs.Frames.{reads}
 use Rattle.shadow_frames.specs.Words.{shadow_word}
 use Rattle.shadow_layout.specs.Operations as operations
 use Rattle.shadow_layout.specs.Operations.{block_directory, block_word, on_block}
-use Rattle.worker_records.specs.Alerts.{IsDue, IsMadeBlock, Midst, found_in}
+use Rattle.worker_records.specs.Shapes.{IsDue, Midst}
+use Rattle.worker_records.specs.Blocks.{IsMadeBlock, found_in}
 use Rattle.worker_records.proofs.BlockLemmas.{at_is, directory_due, directory_is, mapped_due, none_made, read_due, read_made, read_none}
 use Rattle.worker_records.proofs.ShapeLemmas.{DueFrom, found_due}
 use Rattle.worker_records.proofs.blocks.read_block.Goals as goal
@@ -46,8 +47,8 @@ read_next-directory-requires-clause-due g c =
     let t = c.requires.due in
     let plan = g.P.Plan.planned (plan_of c.args.monitor.now) in
     let d = directory_due plan (seat_view c.args.seat.now) c.args.number c.args.op t.0.words (c.args.addr / 16) _
-        (read_due plan (seat_view c.args.seat.now) c.args.number c.args.op t.0 (c.args.addr / 16) t.1)
-        c.directory_word.result c.directory_word.ensures in
+    (read_due plan (seat_view c.args.seat.now) c.args.number c.args.op t.0 (c.args.addr / 16) t.1)
+    c.directory_word.result c.directory_word.ensures in
     (d.0, d.1)
 
 pub returns-then-directory-eq0-clause-made : goal.returns-then-directory-eq0-clause-made

@@ -1,4 +1,4 @@
-use Rattle.std.proofs.Common.{◌≡◌, ℕ, ◌/◌, List, length, find}
+use Rattle.std.proofs.Common.{◌≡◌, ◌/◌, List, length, find}
 use Rattle.lifeguard.specs.State.{nibble_at, span}
 use Rattle.order_core.specs.Shapes.{Shape}
 use Rattle.guard_table.specs.declared.view.View.{View}
@@ -6,7 +6,7 @@ use Rattle.guard_table.specs.Seats.{seat_view}
 use Rattle.shadow_frames.specs.Frames.{pages_from}
 use Rattle.shadow_layout.specs.Operations.{read_block}
 use Rattle.worker_laws.specs.Runs.{Moment, before}
-use Rattle.worker_records.specs.Alerts.{made}
+use Rattle.worker_records.specs.Shapes.{made}
 use Rattle.worker_records.specs.Places.{IsAt, run_at}
 use Rattle.worker_records.proofs.BlockLemmas.{bytes_in}
 use Rattle.worker_records.proofs.blocks.read_range.Given as goal

@@ -1,9 +1,9 @@
-use Rattle.std.proofs.Common.{◌≡◌, ℕ, ◌+◌, ◌*◌, ◌<◌, List, [], ◌∷◌, refl, sym, ap, ◌∙◌, subst}
+use Rattle.std.proofs.Common.{◌+◌, [], ◌∷◌, refl, sym, subst}
 use Rattle.guard_table.specs.declared.view.View.{View}
 use Rattle.guard_table.specs.Seats.{plan_of, seat_view}
 use Rattle.shadow_frames.specs.Frames.{writes}
 use Rattle.shadow_frames.specs.Words.{frame_word}
-use Rattle.worker_records.specs.Alerts.{IsDue, Midst}
+use Rattle.worker_records.specs.Shapes.{IsDue}
 use Rattle.worker_records.proofs.PageLemmas.{fill_at, fill_more}
 use Rattle.worker_records.proofs.ShapeLemmas.{made_none}
 use Rattle.worker_records.proofs.pages.fill_frame.Goals as goal

@@ -1,8 +1,8 @@
-use Rattle.std.proofs.Common.{◌≡◌, ℕ}
+use Rattle.std.proofs.Common.{◌≡◌}
 use Rattle.guard_table.specs.Seats.{IsSeatOf, seat_view}
 use Rattle.shadow_frames.specs.Frames.{fills}
 use Rattle.shadow_frames.specs.Words.{frame_word}
-use Rattle.worker_records.specs.Alerts.{made}
+use Rattle.worker_records.specs.Shapes.{made}
 use Rattle.worker_records.proofs.pages.fill_frame.Given as goal
 
 abbrev pub invariant-loop-i : goal.invariant-loop-i

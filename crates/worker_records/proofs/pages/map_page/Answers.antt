@@ -1,10 +1,11 @@
-use Rattle.std.proofs.Common.{◌≡◌, ℕ, ◌+◌, ◌/◌, ◌%◌, ◌<◌, ◌≤◌, false, List, Some, refl, sym, ap, ◌∙◌, subst, arith}
+use Rattle.std.proofs.Common.{◌≡◌, ℕ, ◌+◌, ◌/◌, ◌%◌, ◌<◌, false, List, Some, sym, ap, ◌∙◌, subst, arith}
 use Rattle.std.specs.Prelude.{Option, slice_index}
 use Rattle.guard_table.specs.declared.view.View.{View}
 use Rattle.guard_table.specs.Seats.{plan_of, seat_view}
 use Rattle.shadow_frames.specs.Frames.{frame_or_none, lowest_free}
 use Rattle.shadow_frames.specs.Words.{bit, is_used, map_word}
-use Rattle.worker_records.specs.Alerts.{IsDue, Midst, place_shapes}
+use Rattle.worker_records.specs.Shapes.{IsDue, Midst}
+use Rattle.worker_records.specs.Pages.{place_shapes}
 use Rattle.worker_records.proofs.PageLemmas.{frame_is, map_due, no_frame, page_made, place_due}
 use Rattle.worker_records.proofs.pages.map_page.Goals as goal
 
@@ -60,10 +61,12 @@ put_page-requires-clause-due g c =
     let v = seat_view c.args.seat.now in
     let each = c.read_map-map.ensures.map _ (map_due plan v c.args.number c.args.op c.args.page c.args.filling t.0 t.1) in
     let e : c.from-frame.result ≡ lowest_free t.0.words = frame t.0.words c.read_map-map.result each c.free_frame.result (c.free_frame.ensures t.0.words) c.in-Some.frame c.from-frame.result c.in-Some.is c.from-frame.ensures in
-    let n : Midst = record t.0 { words = t.0.words } in
-    (n, subst (λ (z : View). IsDue plan z c.args.number (c.args.op + 8) (place_shapes c.from-frame.result c.args.page c.args.filling) n) (sym c.read_map-map.ensures.view)
-    (place_due plan v c.args.number c.args.op c.args.page c.args.filling t.0 t.1 c.from-frame.result e),
-    bits_are t.0.words c.read_map-map.result each c.free_frame.result (c.free_frame.ensures t.0.words) c.in-Some.frame c.from-frame.result c.in-Some.is c.from-frame.ensures t.2)
+    let n : Midst = record t.0 { words = t.0.words } in (
+      n,
+      subst (λ (z : View). IsDue plan z c.args.number (c.args.op + 8) (place_shapes c.from-frame.result c.args.page c.args.filling) n) (sym c.read_map-map.ensures.view)
+          (place_due plan v c.args.number c.args.op c.args.page c.args.filling t.0 t.1 c.from-frame.result e),
+      bits_are t.0.words c.read_map-map.result each c.free_frame.result (c.free_frame.ensures t.0.words) c.in-Some.frame c.from-frame.result c.in-Some.is c.from-frame.ensures t.2,
+    )
 
 pub returns-in-Some-clause-view : goal.returns-in-Some-clause-view
 returns-in-Some-clause-view g c m due =

@@ -1,5 +1,4 @@
-use Rattle.std.proofs.Common.{◌≡◌, ℕ, ◌+◌, ◌*◌, ◌<◌, ◌≤◌, sym, ap, ◌∙◌, subst, arith}
-use Rattle.pl_event.specs.declared.log.PageKind.TheVariants.{Data}
+use Rattle.std.proofs.Common.{◌≡◌, sym, ap, ◌∙◌, subst}
 use Rattle.guard_table.specs.declared.view.View.{View}
 use Rattle.guard_table.specs.Seats.{plan_of, seat_view}
 use Rattle.log_plan.specs.Plans.{plan_of as log_plan_of}
@@ -20,7 +19,7 @@ pub loop-i-preserved : goal.loop-i-preserved
 loop-i-preserved g c =
     let plan = g.P.Plan.planned (plan_of c.args.monitor.now) in
     let next = map_next (g.L.Lifeguard.rules c.args.guard) (seat_view c.args.seat.now) c.args.number c.args.page c.args.count c.requires.pages plan (sym c.requires.at.plan)
-        c.loop-i.i c.loop-i-test.true (seat_view c.loop-i.seat) c.requires.amid c.all_nibbles-filling.result (c.all_nibbles-filling.ensures ∙ ap all_nibbles c.page_state.ensures) c.loop-i.invariant.view (seat_view c.map_page.new.seat) c.map_page.ensures.view in
+    c.loop-i.i c.loop-i-test.true (seat_view c.loop-i.seat) c.requires.amid c.all_nibbles-filling.result (c.all_nibbles-filling.ensures ∙ ap all_nibbles c.page_state.ensures) c.loop-i.invariant.view (seat_view c.map_page.new.seat) c.map_page.ensures.view in
     record {
       at = record { of = c.map_page.ensures.of; plan = subst (λ (z : Course). plan ≡ log_plan_of (g.L.Lifeguard.rules c.args.guard) z.log) (sym (ap (λ (z : View). z.course) next)) c.requires.at.plan };
       view = next;

@@ -1,11 +1,11 @@
-use Rattle.std.proofs.Common.{◌≡◌, ℕ}
+use Rattle.std.proofs.Common.{◌≡◌}
 use Rattle.pl_event.specs.declared.log.PageKind.TheVariants.{Data}
 use Rattle.guard_table.specs.declared.view.View.{View}
 use Rattle.guard_table.specs.Seats.{seat_view}
 use Rattle.shadow_frames.specs.Frames.{map_page, pages_from}
 use Rattle.shadow_frames.specs.Words.{all_nibbles}
 use Rattle.worker_laws.specs.Runs.{before}
-use Rattle.worker_records.specs.Alerts.{made}
+use Rattle.worker_records.specs.Shapes.{made}
 use Rattle.worker_records.specs.Places.{IsAt, run_at}
 use Rattle.worker_records.proofs.pages.map_pages.Given as goal
 

@@ -1,4 +1,4 @@
-use Rattle.std.proofs.Common.{◌≡◌, ℕ, ◌+◌, ◌<◌, ◌≤◌, List, [], ◌∷◌, refl, sym, ap, ◌∙◌, subst, arith}
+use Rattle.std.proofs.Common.{◌≡◌, ℕ, ◌+◌, ◌<◌, List, [], ◌∷◌, refl, sym, ap, ◌∙◌, subst, arith}
 use Rattle.std.specs.Prelude.{length, slice_index, slice_set}
 use Rattle.std.proofs.lemmas.List.{get_or-set_other, get_or-set_same, length-set}
 use mathlib.Core.Logic.{dite}
@@ -6,7 +6,7 @@ use native.Mathlib.Decide.{ℕ_discrete}
 use Rattle.guard_table.specs.declared.view.View.{View}
 use Rattle.guard_table.specs.Seats.{plan_of, seat_view}
 use Rattle.shadow_frames.specs.Frames.{reads}
-use Rattle.worker_records.specs.Alerts.{IsDue, Midst}
+use Rattle.worker_records.specs.Shapes.{IsDue, Midst}
 use Rattle.worker_records.proofs.PageLemmas.{read_at}
 use Rattle.worker_records.proofs.pages.read_map.Goals as goal
 

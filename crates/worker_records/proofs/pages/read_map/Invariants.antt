@@ -1,7 +1,8 @@
 use Rattle.std.proofs.Common.{◌≡◌, ℕ, ◌+◌, ◌<◌}
 use Rattle.std.specs.Prelude.{length, slice_index}
 use Rattle.guard_table.specs.Seats.{IsSeatOf, plan_of, seat_view}
-use Rattle.worker_records.specs.Alerts.{IsDue, Midst, reads_from}
+use Rattle.worker_records.specs.Shapes.{IsDue, Midst}
+use Rattle.worker_records.specs.Pages.{reads_from}
 use Rattle.worker_records.proofs.pages.read_map.Given as goal
 
 abbrev pub invariant-loop-i : goal.invariant-loop-i

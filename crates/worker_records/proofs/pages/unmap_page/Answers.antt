@@ -1,11 +1,11 @@
-use Rattle.std.proofs.Common.{◌≡◌, ◌≢◌, ℕ, ◌+◌, ◌-◌, ◌/◌, ◌%◌, ◌^◌, ◌<◌, ◌≤◌, true, List, [], ◌∷◌, refl, sym, ap, ◌∙◌, subst, arith}
+use Rattle.std.proofs.Common.{◌≡◌, ◌≢◌, ℕ, ◌+◌, ◌-◌, ◌%◌, ◌^◌, ◌≤◌, true, [], ◌∷◌, refl, sym, ap, ◌∙◌, subst, arith}
 use Rattle.guard_table.specs.declared.view.View.{View}
 use Rattle.guard_table.specs.Seats.{plan_of, seat_view}
 use Rattle.guard_table.specs.Views.{wrote}
 use Rattle.order_core.specs.Course.{Planned}
 use Rattle.shadow_frames.specs.Frames.{reads, unmap_page, writes}
 use Rattle.shadow_frames.specs.Words.{bit, directory_word, is_used, map_word}
-use Rattle.worker_records.specs.Alerts.{IsDue, Midst}
+use Rattle.worker_records.specs.Shapes.{IsDue, Midst}
 use Rattle.worker_records.proofs.PageLemmas.{bits_due, bits_found, clear_due, free_due, freed_made, look_due, look_found}
 use Rattle.worker_records.proofs.pages.unmap_page.Goals as goal
 
@@ -84,10 +84,12 @@ write_next-requires-clause-due g c =
     let d = c.read_next-directory.result in
     let b = free_due plan v c.args.number c.args.op c.args.page t.0 t.1 (d - 1) (f_is plan v c.args.number c.args.op c.args.page t.0 t.1 d c.read_next-directory.ensures.value) in
     let e : c.read_next-bits.result ≡ t.0.words (map_word (d - 1)) = bits_are plan v c.args.number c.args.op c.args.page t.0 t.1 d c.read_next-directory.ensures.value c.read_next-bits.result
-    (subst (λ (z : View). (n : Midst) → IsDue plan z c.args.number (c.args.op + 1) (reads (map_word (d - 1)) ∷ []) n → c.read_next-bits.result ≡ n.words (map_word (d - 1))) c.read_next-directory.ensures.view c.read_next-bits.ensures.value) in
-    ((λ x. x - 2 ^ ((d - 1) % 64)), b.0,
-    subst (λ (z : View). IsDue plan z c.args.number (c.args.op + 2) (writes (map_word (d - 1)) (λ x. x - 2 ^ ((d - 1) % 64)) ∷ []) b.0) (sym (c.read_next-bits.ensures.view ∙ c.read_next-directory.ensures.view)) b.1,
-    c.without_bit.ensures ∙ ap (λ (z : ℕ). z - 2 ^ ((d - 1) % 64)) (e ∙ ap (λ (z : ℕ → ℕ). z (map_word (d - 1))) (sym b.2)))
+    (subst (λ (z : View). (n : Midst) → IsDue plan z c.args.number (c.args.op + 1) (reads (map_word (d - 1)) ∷ []) n → c.read_next-bits.result ≡ n.words (map_word (d - 1))) c.read_next-directory.ensures.view c.read_next-bits.ensures.value) in (
+      (λ x. x - 2 ^ ((d - 1) % 64)),
+      b.0,
+      subst (λ (z : View). IsDue plan z c.args.number (c.args.op + 2) (writes (map_word (d - 1)) (λ x. x - 2 ^ ((d - 1) % 64)) ∷ []) b.0) (sym (c.read_next-bits.ensures.view ∙ c.read_next-directory.ensures.view)) b.1,
+      c.without_bit.ensures ∙ ap (λ (z : ℕ). z - 2 ^ ((d - 1) % 64)) (e ∙ ap (λ (z : ℕ → ℕ). z (map_word (d - 1))) (sym b.2)),
+    )
 
 pub write_next-requires-2-clause-due : goal.write_next-requires-2-clause-due
 write_next-requires-2-clause-due g c =
@@ -95,10 +97,12 @@ write_next-requires-2-clause-due g c =
     let plan = g.P.Plan.planned (plan_of c.args.monitor.now) in
     let v = seat_view c.args.seat.now in
     let d = c.read_next-directory.result in
-    let b = clear_due plan v c.args.number c.args.op c.args.page t.0 t.1 (d - 1) (f_is plan v c.args.number c.args.op c.args.page t.0 t.1 d c.read_next-directory.ensures.value) in
-    ((λ _. 0), b.0,
-    subst (λ (z : View). IsDue plan z c.args.number (c.args.op + 3) (writes (directory_word c.args.page) (λ _. 0) ∷ []) b.0) (sym (c.write_next.ensures.view ∙ ap wrote (c.read_next-bits.ensures.view ∙ c.read_next-directory.ensures.view))) b.1,
-    refl)
+    let b = clear_due plan v c.args.number c.args.op c.args.page t.0 t.1 (d - 1) (f_is plan v c.args.number c.args.op c.args.page t.0 t.1 d c.read_next-directory.ensures.value) in (
+      (λ _. 0),
+      b.0,
+      subst (λ (z : View). IsDue plan z c.args.number (c.args.op + 3) (writes (directory_word c.args.page) (λ _. 0) ∷ []) b.0) (sym (c.write_next.ensures.view ∙ ap wrote (c.read_next-bits.ensures.view ∙ c.read_next-directory.ensures.view))) b.1,
+      refl,
+    )
 
 pub returns-clause-view : goal.returns-clause-view
 returns-clause-view g c m due = freed_made m.words c.args.page (seat_view c.args.seat.now) (seat_view c.write_next-2.new.seat)

@@ -1,9 +1,9 @@
-use Rattle.std.proofs.Common.{◌≡◌, ℕ}
+use Rattle.std.proofs.Common.{◌≡◌}
 use Rattle.guard_table.specs.declared.view.View.{View}
 use Rattle.guard_table.specs.Seats.{seat_view}
 use Rattle.shadow_frames.specs.Frames.{unmap_page, pages_from}
 use Rattle.worker_laws.specs.Runs.{before}
-use Rattle.worker_records.specs.Alerts.{made}
+use Rattle.worker_records.specs.Shapes.{made}
 use Rattle.worker_records.specs.Places.{IsAt, run_at}
 use Rattle.worker_records.proofs.pages.unmap_pages.Given as goal
 

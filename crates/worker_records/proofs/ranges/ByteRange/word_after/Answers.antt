@@ -1,4 +1,4 @@
-use Rattle.std.proofs.Common.{◌≡◌, ℕ, ◌+◌, ◌%◌, ◌<◌, ◌≤◌, ◌⊎◌, inl, inr, arith}
+use Rattle.std.proofs.Common.{ℕ, ◌+◌, ◌%◌, ◌<◌, ◌≤◌, ◌⊎◌, inl, inr, arith}
 use Rattle.worker_records.proofs.WordLemmas.{changed_by}
 use Rattle.worker_records.proofs.ranges.ByteRange.word_after.Goals as goal
 

@@ -10,3 +10,11 @@ pub mod StoreLemmas
 pub mod FieldLemmas
 pub mod MadeLemmas
 pub mod EventLemmas
+pub mod ShapeLemmas
+pub mod BlockLemmas
+pub mod LoopLemmas
+pub mod RangeLemmas
+pub mod PageLemmas
+pub mod KeptPages
+pub mod MapLemmas
+pub mod OperateLemmas

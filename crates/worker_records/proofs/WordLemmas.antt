@@ -1,10 +1,10 @@
 -- What a word tells of the bytes of an access, and what a store makes of it.
-use Rattle.std.proofs.Common.{◌≡◌, ℕ, zero, suc, ◌+◌, ◌-◌, ◌*◌, ◌/◌, ◌%◌, ◌^◌, ◌<◌, ◌≤◌, ◌⊎◌, inl, inr, Bool, true, false, ◌&&◌, nat_le, nat_lt, Some, None, find, refl, sym, ap, ◌∙◌, subst, arith, pow-suc, if◌then◌else◌}
+use Rattle.std.proofs.Common.{◌≡◌, ℕ, zero, suc, ◌+◌, ◌-◌, ◌*◌, ◌/◌, ◌%◌, ◌^◌, ◌<◌, ◌≤◌, ◌⊎◌, inl, inr, Bool, true, false, Some, None, find, sym, ap, ◌∙◌, arith, pow-suc, if◌then◌else◌}
 use mathlib.Core.Logic.{dite}
 use native.Mathlib.Decide.{dec_le}
 use Rattle.lifeguard.specs.Rules.{Rules}
 use Rattle.lifeguard.specs.Plain.{mask_bit}
-use Rattle.lifeguard.specs.State.{Bytes, is_in, nibble_at, span}
+use Rattle.lifeguard.specs.State.{is_in, span}
 use Rattle.lifeguard.proofs.CellLemmas.{find_here, find_next, find_none}
 use Rattle.pl_base.specs.declared.widths.StoreWidth.{StoreWidth}
 use Rattle.pl_base.specs.Widths.{store_bytes}
@@ -92,19 +92,27 @@ beside : (f : ℕ → ℕ → ℕ) (addr len k old : ℕ) → (k < addr % 16) �
 beside f addr len k old (inl lt) = chosen (f (16 * (addr / 16) + k - addr)) old (is_in addr len (16 * (addr / 16) + k)) false (outside_low addr len (16 * (addr / 16) + k) (omega arith))
 beside f addr len k old (inr le) = chosen (f (16 * (addr / 16) + k - addr)) old (is_in addr len (16 * (addr / 16) + k)) false (outside_high addr len (16 * (addr / 16) + k) (omega arith))
 
+-- a word whose nibbles of a range in its block are changed, and no others
+pub changed_by : (f : ℕ → ℕ → ℕ) (addr len x y : ℕ) → addr % 16 + len ≤ 16 → y < 2 ^ 64
+    → ((k : ℕ) → k < len → nibble_of y (addr % 16 + k) ≡ f k (nibble_of x (addr % 16 + k)))
+    → ((k : ℕ) → k < 16 → (k < addr % 16) ⊎ (addr % 16 + len ≤ k) → nibble_of y k ≡ nibble_of x k)
+    → y ≡ changed_word f addr len (addr / 16) x
+changed_by f addr len x y fits wide done rest = changed_is f addr len (addr / 16) x y wide (λ k lt. by k lt)
+  where
+    by : (k : ℕ) → k < 16 → nibble_of y k ≡ in_block f addr len (addr / 16) k (nibble_of x k)
+    by k lt = dite (dec_le (addr % 16) k)
+        (λ le. dite (dec_le (addr % 16 + len) k)
+        (λ past. rest k lt (inr past) ∙ sym (beside f addr len k (nibble_of x k) (inr past)))
+        (λ n. let u : addr % 16 + len ≤ k → ⊥ = n in
+        let e : addr % 16 + (k - addr % 16) ≡ k = omega arith in
+        let j : k - addr % 16 < len = omega arith in
+        ap (nibble_of y) (sym e) ∙ (done (k - addr % 16) j ∙ (sym (within f addr len (k - addr % 16) (nibble_of x (addr % 16 + (k - addr % 16))) j fits)
+        ∙ ap (λ (z : ℕ). in_block f addr len (addr / 16) z (nibble_of x z)) e))))
+        (λ n. let u : addr % 16 ≤ k → ⊥ = n in rest k lt (inl (omega arith)) ∙ sym (beside f addr len k (nibble_of x k) (inl (omega arith))))
+
 pub stored_is : (rules : Rules) (mask : ℕ) (width : StoreWidth) (addr x y : ℕ) → addr % 4 + store_bytes width ≤ 4 → y < 2 ^ 64
     → ((k : ℕ) → k < store_bytes width → nibble_of y (addr % 16 + k) ≡ rules.store_nibble (nibble_of x (addr % 16 + k)) (mask_bit mask k))
     → ((k : ℕ) → k < 16 → (k < addr % 16) ⊎ (addr % 16 + store_bytes width ≤ k) → nibble_of y k ≡ nibble_of x k)
     → y ≡ stored_word rules mask width addr x
-stored_is rules mask width addr x y fits wide done rest = changed_is (λ i old. rules.store_nibble old (mask_bit mask i)) addr (store_bytes width) (addr / 16) x y wide (λ k lt. by k lt)
-  where
-    by : (k : ℕ) → k < 16 → nibble_of y k ≡ in_block (λ i old. rules.store_nibble old (mask_bit mask i)) addr (store_bytes width) (addr / 16) k (nibble_of x k)
-    by k lt = dite (dec_le (addr % 16) k)
-        (λ le. dite (dec_le (addr % 16 + store_bytes width) k)
-        (λ past. rest k lt (inr past) ∙ sym (beside (λ i old. rules.store_nibble old (mask_bit mask i)) addr (store_bytes width) k (nibble_of x k) (inr past)))
-        (λ n. let u : addr % 16 + store_bytes width ≤ k → ⊥ = n in
-        let e : addr % 16 + (k - addr % 16) ≡ k = omega arith in
-        let j : k - addr % 16 < store_bytes width = omega arith in
-        ap (nibble_of y) (sym e) ∙ (done (k - addr % 16) j ∙ (sym (within (λ i old. rules.store_nibble old (mask_bit mask i)) addr (store_bytes width) (k - addr % 16) (nibble_of x (addr % 16 + (k - addr % 16))) j (omega arith))
-        ∙ ap (λ (z : ℕ). in_block (λ i old. rules.store_nibble old (mask_bit mask i)) addr (store_bytes width) (addr / 16) z (nibble_of x z)) e))))
-        (λ n. let u : addr % 16 ≤ k → ⊥ = n in rest k lt (inl (omega arith)) ∙ sym (beside (λ i old. rules.store_nibble old (mask_bit mask i)) addr (store_bytes width) k (nibble_of x k) (inl (omega arith))))
+stored_is rules mask width addr x y fits wide done rest =
+    changed_by (λ i old. rules.store_nibble old (mask_bit mask i)) addr (store_bytes width) x y (omega arith) wide done rest

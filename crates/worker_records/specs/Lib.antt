@@ -7,3 +7,7 @@ pub mod Checks
 pub mod Accesses
 pub mod Reports
 pub mod Plain
+pub mod Alerts
+pub mod Shapes
+pub mod Blocks
+pub mod Pages

@@ -3,15 +3,21 @@
 //! What a worker keeps beside its seat is a state: for each register a mask or a held load, whose reads it makes when a
 //! rule asks for the mask; the frames of pages that it looked up, and the checks that passed; counts and reports. Each
 //! kind of record changes it, and a contract says that what it keeps is true of the plain run after the record, and
-//! which reads and writes it made. Loads, stores, events without operations and notices are here.
+//! which reads and writes it made. Loads, stores, events without operations and notices are here, and all operations of
+//! alert events, block by block and page by page.
 #![tactic(auto)]
 
 mod accesses;
+mod blocks;
 mod checks;
 mod late;
 mod notices;
+mod operations;
+mod pages;
 mod plain;
+mod ranges;
 mod reports;
+mod shapes;
 mod state;
 mod steps;
 mod words;

@@ -79,13 +79,29 @@ pub fn word_mask<L: Lifeguard>(guard: L, word: u64, width: LoadWidth, addr: u32)
 /// The first of so many bytes from `addr` on that may not be touched, where the word tells of them.
 pub fn first_bad<L: Lifeguard>(guard: L, word: u64, addr: u32, len: u8) -> Option<u32>
     requires near { addr < MEMORY_BYTES }
-    requires narrow { addr % SMALL_BLOCK_BYTES + len ≤ SMALL_BLOCK_BYTES }
+    requires narrow { addr % BLOCK_BYTES + len ≤ BLOCK_BYTES }
     requires low { HasLowNibbles word addr len }
     ensures { (bytes : Bytes) → TellsOf word bytes addr len
         → result ≡ find (λ a. (L.rules guard).bad_access (nibble_at bytes a)) (span addr len) }
 {
     for i in 0..len {
         if guard.bad_access(nibble_in(word, addr, i)) {
+            return Some(addr + u32::from(i));
+        }
+    }
+    None
+}
+
+/// The first of so many bytes from `addr` on that may not go outside, where the word tells of them.
+pub fn first_undefined<L: Lifeguard>(guard: L, word: u64, addr: u32, len: u8) -> Option<u32>
+    requires near { addr < MEMORY_BYTES }
+    requires narrow { addr % BLOCK_BYTES + len ≤ BLOCK_BYTES }
+    requires low { HasLowNibbles word addr len }
+    ensures { (bytes : Bytes) → TellsOf word bytes addr len
+        → result ≡ find (λ a. (L.rules guard).bad_value (nibble_at bytes a)) (span addr len) }
+{
+    for i in 0..len {
+        if guard.bad_value(nibble_in(word, addr, i)) {
             return Some(addr + u32::from(i));
         }
     }

@@ -10,3 +10,4 @@ pub mod StoreLemmas
 pub mod FieldLemmas
 pub mod MadeLemmas
 pub mod EventLemmas
+pub mod AlertLemmas

@@ -7,3 +7,4 @@ pub mod Checks
 pub mod Accesses
 pub mod Reports
 pub mod Plain
+pub mod Alerts

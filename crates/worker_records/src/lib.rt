@@ -8,9 +8,12 @@
 
 mod accesses;
 mod checks;
+mod events;
 mod late;
 mod notices;
+mod operations;
 mod plain;
+mod progress;
 mod reports;
 mod state;
 mod steps;

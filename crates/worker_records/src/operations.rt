@@ -1,0 +1,36 @@
+//! The operations of alert events, block by block and page by page.
+ghost use Rattle.std.specs.Prelude.{◌≡◌, ℕ, ◌<◌, true, []};
+ghost use Rattle.pl_event.specs.Alerts.{is_alert_kind};
+ghost use Rattle.guard_table.specs.Seats.{seat_view};
+ghost use Rattle.worker_laws.specs.Runs.{before, shapes_at};
+ghost use Rattle.worker_records.specs.Accesses.{HasWritten};
+ghost use Rattle.worker_records.specs.Alerts.{IsAmid, IsFound};
+ghost use Rattle.worker_records.specs.Places.{IsAt, run_at};
+
+use crate::state::Found;
+use guard_table::{GuardSeat, Monitor};
+use lifeguard::Lifeguard;
+use order_core::Plan;
+use pl_event::Kind;
+
+/// Makes all operations of an alert event, none of which is made yet.
+pub(crate) fn operate<P: Plan, L: Lifeguard>(
+    monitor: &Monitor<P>,
+    seat: &mut GuardSeat,
+    guard: L,
+    number: u32,
+    kind: Kind,
+) -> Found
+    requires at { IsAt P.planned monitor.now (L.rules guard) seat.old }
+    requires alert { is_alert_kind kind ≡ true }
+    requires amid { let v = seat_view seat.old in let p = run_at (L.rules guard) v in
+        IsAmid p v number 0 kind (before p v.hart number).words (shapes_at p v.hart number kind) }
+    ensures at { IsAt P.planned monitor.now (L.rules guard) seat.new }
+    ensures view { HasWritten (seat_view seat.old) (seat_view seat.new) }
+    ensures all { let p = run_at (L.rules guard) (seat_view seat.old) in (w : ℕ → ℕ) × (op : ℕ)
+        × IsAmid p (seat_view seat.new) number op kind w [] × (op < 4294967295) }
+    ensures found { let v = seat_view seat.old in let p = run_at (L.rules guard) v in
+        IsFound p kind (before p v.hart number).state result }
+{
+    Found::NONE
+}

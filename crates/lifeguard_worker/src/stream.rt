@@ -17,7 +17,8 @@ pub(crate) fn add_fed(stream: &mut Feds, from: usize, fed: &[Fed]) -> Result<(),
     ensures all { OnOk result (from + length fed.now ≤ length stream.new) }
 {
     for i in 0..fed.len() {
-        if from + i < stream.len() {
+        let len = stream.len();
+        if from + i < len {
             continue;
         }
         stream.push(fed[i])?;

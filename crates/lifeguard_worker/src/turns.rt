@@ -32,11 +32,13 @@ impl<L: Lifeguard> TurnWorker for Worker<L> {
 
     fn feed(&mut self, fed: Vec<Fed>) -> Result<(), FeedRefused> {
         let from = self.fed;
-        if add_fed(&mut self.stream, from, &fed).is_err() {
-            return Err(FeedRefused { fed });
+        match add_fed(&mut self.stream, from, &fed) {
+            Ok(()) => {
+                self.fed = from + fed.len();
+                Ok(())
+            }
+            Err(_) => Err(FeedRefused { fed }),
         }
-        self.fed = from + fed.len();
-        Ok(())
     }
 
     fn no_more(&mut self) {

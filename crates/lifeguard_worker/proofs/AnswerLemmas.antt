@@ -38,7 +38,7 @@ module _ (rules : Rules) (table : TableId) (w : View) (t : State) (told : ℕ) (
   used_up e = record { all = e ∙ sym size; told = all }
 
   module _ (kept : IsKept rules w t) (left : t.taken < fed) (v0 v : View) (short : Short) (is_short : IsShort (needs_of w.course.log.lines w.hart (t.taken + 1)) v0 v short) (seen : w.seen ≡ v.seen) (learnt : w.learnt ≡ v.learnt) where
-    p : Run
+    abbrev p : Run
     p = run_at rules w
 
     k : Known (course_of p.plan)
@@ -168,3 +168,23 @@ answer_last n i u v w NoMemory other later taken lt is = (
   (let a : w.taken < v.taken + 1 = is.0 in omega arith),
   (let a : v.spare < 3 * 1 = is.1 in let b : u.spare ≤ v.spare + 3 * (v.taken - u.taken) = later.spare in omega arith),
 )
+
+pub later_less : (a n : ℕ) (v w : WorkerView) → a ≤ n → IsLaterBy a v w → IsLaterBy n v w
+later_less a n v w le x = record {
+  same = x.same;
+  seat = x.seat;
+  taken = x.taken;
+  few = omega (arith, le, x.few);
+  written = x.written;
+  progress = x.progress;
+  seen = x.seen;
+  looks = x.looks;
+  spare = x.spare;
+}
+
+-- the steps counted, before and after one more turn
+pub steps_more : (i : ℕ) (u v w : WorkerView) (first before after : ℕ) → IsLaterBy i u v → before + u.steps u.taken ≡ first + u.steps v.taken → after + v.steps v.taken ≡ before + v.steps w.taken → after + u.steps u.taken ≡ first + u.steps w.taken
+steps_more i u v w first before after later x y =
+    let same : v.steps ≡ u.steps = ap (λ (z : WorkerView). z.steps) later.same in
+    let z : after + u.steps v.taken ≡ before + u.steps w.taken = subst (λ (f : ℕ → ℕ). after + f v.taken ≡ before + f w.taken) same y in
+    omega (arith, x, z)

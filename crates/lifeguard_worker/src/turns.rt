@@ -1,6 +1,4 @@
 //! What a worker is fed and told between its turns, its turns, and its end.
-ghost use Rattle.std.specs.Prelude.{◌≡◌};
-
 use crate::stream::add_fed;
 use crate::worker::Worker;
 use guard_table::{GuardSeat, Monitor, Note};
@@ -12,6 +10,7 @@ use std::sync::ledger::Ledger;
 use turn_worker::{FeedRefused, HartResult, Turn, TurnWorker};
 
 impl<L: Lifeguard> TurnWorker for Worker<L> {
+    ghost use Rattle.std.specs.Prelude.{refl};
     ghost use Rattle.guard_table.specs.Seats.{seat_view};
     ghost use Rattle.lifeguard_worker.specs.Workers.{table_of, worker_view};
     ghost use Rattle.lifeguard_worker.specs.Sound.{is_sound};

@@ -11,7 +11,7 @@ abbrev pub invariant-loop : goal.invariant-loop
 invariant-loop g l =
     let view = λ (w : _). worker_view (g.L.Lifeguard.rules w.guard) (table_of w.seat) (seat_view w.seat) w.state w.stream w.fed w.ended in
     record {
-      later : IsLaterBy l.i (view l.initial.self) (view l.self);
-      taken : l.self.state.taken ≡ l.initial.self.state.taken + l.i;
+      later : IsLaterBy l.counter (view l.initial.self) (view l.self);
+      taken : l.self.state.taken ≡ l.initial.self.state.taken + l.counter;
       steps : let v = view l.initial.self in l.steps + v.steps v.taken ≡ l.initial.steps + v.steps l.self.state.taken;
     }

@@ -79,7 +79,7 @@ take_record-requires-clause-ready g c =
     let left : w.state.taken < w.fed = omega (arith, ne, w.is.few) in
     let fed = next_fed rules v w.stream w.state.taken w.is.begins (omega (arith, left, w.is.inside)) c.get-fed.result c.get-fed.ensures in
     let needs : c.get-fed.result.needs ≡ needs_of v.course.log.lines v.hart (w.state.taken + 1) = fed_needs v.course.log.lines v.hart fed.0 (w.state.taken + 1) fed.1 fed.2 c.get-fed.result fed.3 in
-    ready_then rules v v1 (seat_view c.keep_up-self.new.seat) w.state c.keep_up-self.new.state w.told w.stream w.fed w.ended w.is left c.first_short.ensures.looked c.keep_up-self.result c.keep_up-self.ensures.view c.keep_up-self.ensures.kept
+    ready_then rules (table_of w.seat) (table_of c.keep_up-self.new.seat) v v1 (seat_view c.keep_up-self.new.seat) w.state c.keep_up-self.new.state w.told w.stream w.fed w.ended w.is left c.first_short.ensures.looked c.keep_up-self.result c.keep_up-self.ensures.view c.keep_up-self.ensures.kept
     (ap (λ (z : State). z.taken) c.keep_up-self.ensures.others ∙ ap (λ (z : State). z.taken) c.make_room.ensures.others) (let near = c.keep_up-self.ensures.near in let same = ap (λ (z : State). z.taken) c.make_room.ensures.others in omega (arith, near, same))
     c.get-fed.result.needs needs (c.first_short.ensures.seen c.in_default.is)
 

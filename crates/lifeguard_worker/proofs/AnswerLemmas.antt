@@ -1,6 +1,6 @@
 -- How a turn of one record ends.
-use Rattle.std.proofs.Common.{◌≡◌, ◌≢◌, ℕ, ◌+◌, ◌*◌, ◌<◌, ◌≤◌, Bool, List, Option, Some, None, length, take, refl, sym, ap, ◌∙◌, subst, arith, lt_of_not-le}
-use Rattle.std.specs.Prelude.{◌-◌, slice_index, slice_index_or}
+use Rattle.std.proofs.Common.{◌≡◌, ◌≢◌, ℕ, ◌+◌, ◌*◌, ◌<◌, ◌≤◌, Bool, List, Option, Some, length, take, refl, sym, ap, ◌∙◌, subst, arith, lt_of_not-le}
+use Rattle.std.specs.Prelude.{◌-◌, slice_index}
 use mathlib.Core.Logic.{dite}
 use native.Mathlib.Decide.{dec_le}
 use Rattle.std.proofs.lemmas.List.{length-take-le}
@@ -97,14 +97,13 @@ module _ (rules : Rules) (table table' : TableId) (v v1 v2 : View) (s t : State)
       let told_all : v2.progress ≡ t.taken = ap (λ (z : View). z.progress) view ∙ (all ∙ sym taken) in
       let few : t.taken ≤ fed = omega (arith, taken, left) in
       let now : IsWorker rules v2 t t.taken stream fed ended = worker_then rules v v2 s t told t.taken stream fed ended is moves kept told_all few in
-      let same : needs ≡ needs_of v2.course.log.lines v2.hart (t.taken + 1) = needs_is ∙ (ap (λ (n : ℕ). needs_of v.course.log.lines v.hart (n + 1)) (sym taken) ∙ ap (λ (z : View). needs_of z.course.log.lines z.hart (t.taken + 1)) (sym moves.same)) in
-      (
+      let same : needs ≡ needs_of v2.course.log.lines v2.hart (t.taken + 1) = needs_is ∙ (ap (λ (n : ℕ). needs_of v.course.log.lines v.hart (n + 1)) (sym taken) ∙ ap (λ (z : View). needs_of z.course.log.lines z.hart (t.taken + 1)) (sym moves.same)) in (
         (omega (arith, taken)),
         (let a : slice_index v.looks short.hart < slice_index v1.looks short.hart = is_short.looked in
-        subst (λ (z : View). slice_index v.looks short.hart < slice_index z.looks short.hart) (sym view) a),
+            subst (λ (z : View). slice_index v.looks short.hart < slice_index z.looks short.hart) (sym view) a),
         waiting rules table' v2 t t.taken stream fed ended now told_all kept (omega (arith, taken, left)) v v1 short
-        (subst (λ (z : List (Option ℕ)). IsShort z v v1 short) same is_short)
-        (ap (λ (z : View). z.seen) view) (ap (λ (z : View). z.learnt) view),
+            (subst (λ (z : List (Option ℕ)). IsShort z v v1 short) same is_short)
+            (ap (λ (z : View). z.seen) view) (ap (λ (z : View). z.learnt) view),
       )
 
   -- after looks that found enough, the next record may be taken

@@ -1,7 +1,6 @@
 -- Records that are fed: they are the next ones of the hart's stream.
-use Rattle.std.proofs.Common.{◌≡◌, ℕ, ◌+◌, ◌<◌, ◌≤◌, zero, suc, Bool, true, false, cond, filter, if◌then◌else◌, List, [], ◌∷◌, ◌++◌, length, take, get_or, refl, sym, ap, ◌∙◌, subst, arith}
+use Rattle.std.proofs.Common.{◌≡◌, ℕ, ◌+◌, ◌<◌, ◌≤◌, suc, Bool, true, false, cond, filter, if◌then◌else◌, List, [], ◌∷◌, ◌++◌, length, take, get_or, refl, sym, ap, ◌∙◌, subst, arith}
 use Rattle.std.proofs.lemmas.List.{get_or-append-add, get_or-take, length-append, length-take, length-take-le, take_more}
-use Rattle.pl_event.specs.declared.event.Kind.{Kind}
 use Rattle.pl_event.specs.declared.event.Event.{Event}
 use Rattle.pl_event.specs.declared.fed.Fed.{Fed}
 use Rattle.pl_event.specs.declared.log.Line.{Line}
@@ -27,9 +26,9 @@ module _ (whole first fed : List Fed) (n : ℕ) (same : length first ≡ n) (nex
       let inside : length s < length whole = omega (arith, at, lt, long) in
       let place : n + i ≡ length first + i = omega (arith, same) in
       let read : get_or whole (length s) x ≡ x = ap (λ (j : ℕ). get_or whole j x) at
-          ∙ (sym (get_or-take (n + length fed) whole (n + i) x (omega (arith, lt)))
-          ∙ (ap (λ (z : List Fed). get_or z (n + i) x) next
-          ∙ (ap (λ (j : ℕ). get_or (first ++ fed) j x) place ∙ (get_or-append-add first fed i x ∙ sym here)))) in
+      ∙ (sym (get_or-take (n + length fed) whole (n + i) x (omega (arith, lt)))
+      ∙ (ap (λ (z : List Fed). get_or z (n + i) x) next
+      ∙ (ap (λ (j : ℕ). get_or (first ++ fed) j x) place ∙ (get_or-append-add first fed i x ∙ sym here)))) in
       ap (λ (j : ℕ). take j whole) size ∙ (take_more whole (length s) x inside
       ∙ ((λ d. is d ++ read d ∷ [])))
 

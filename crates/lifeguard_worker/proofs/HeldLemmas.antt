@@ -1,5 +1,5 @@
 -- Where all that is taken is told, no load is held.
-use Rattle.std.proofs.Common.{◌≡◌, ℕ, ◌<◌, ◌≤◌, arith}
+use Rattle.std.proofs.Common.{ℕ, ◌<◌, ◌≤◌, arith}
 use Rattle.order_core.proofs.Named.{op_at}
 use Rattle.guard_table.specs.declared.view.View.{View}
 use Rattle.lifeguard.specs.Rules.{Rules}

@@ -13,7 +13,7 @@ use Rattle.order_core.specs.Course.{course_of, operation_of}
 use Rattle.order_core.specs.Lawful.{IsLawful}
 use Rattle.order_core.proofs.Progress.{need_within, read_after_see}
 use Rattle.guard_table.specs.declared.view.View.{View}
-use Rattle.worker_laws.specs.Runs.{IsRun, Run}
+use Rattle.worker_laws.specs.Runs.{Run}
 use Rattle.worker_laws.specs.Kept.{Kept, Parts}
 use Rattle.worker_laws.specs.Reads.{MayReadNow}
 use Rattle.lifeguard_worker.specs.declared.needs.Short.{Short}

@@ -1,5 +1,5 @@
 -- What the parts of a turn do to a worker.
-use Rattle.std.proofs.Common.{◌≡◌, ℕ, ◌+◌, ◌-◌, ◌*◌, ◌<◌, ◌≤◌, Bool, true, false, List, [], ◌∷◌, Some, None, length, take, refl, sym, ap, ◌∙◌, subst, arith}
+use Rattle.std.proofs.Common.{◌≡◌, ℕ, ◌+◌, ◌-◌, ◌*◌, ◌<◌, ◌≤◌, Bool, true, false, List, [], ◌∷◌, Some, length, take, refl, sym, ap, ◌∙◌, subst, arith}
 use Rattle.std.specs.Prelude.{slice_get, slice_index}
 use mathlib.Core.Logic.{dite}
 use native.Mathlib.Decide.{ℕ_discrete}
@@ -8,7 +8,6 @@ use Rattle.pl_event.specs.declared.fed.Fed.{Fed}
 use Rattle.pl_event.specs.declared.log.Line.{Line}
 use Rattle.pl_event.specs.Feeds.{fed_at, feds_of}
 use Rattle.pl_event.specs.Needs.{need_of, needs_of}
-use Rattle.pl_event.specs.Numbers.{hart_of}
 use Rattle.pl_event.specs.Records.{records_before, IsRecord}
 use Rattle.lifeguard.specs.Rules.{KeepsLaws, Rules}
 use Rattle.order_core.specs.declared.course.Course.{Course}
@@ -25,7 +24,7 @@ use Rattle.log_plan.specs.Plans.{plan_of}
 use Rattle.turn_worker.specs.Turns.{IsLaterBy}
 use Rattle.worker_laws.specs.Folds.{steps_at}
 use Rattle.worker_laws.specs.Kept.{Kept, Parts, first_parts}
-use Rattle.worker_laws.specs.Runs.{IsRun, Run, size}
+use Rattle.worker_laws.specs.Runs.{size}
 use Rattle.worker_laws.proofs.Ending.{kept_first}
 use Rattle.worker_laws.proofs.Feeding.{fed_record, fed_within}
 use Rattle.worker_laws.proofs.Keeping.{some_is}

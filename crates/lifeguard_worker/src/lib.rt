@@ -7,9 +7,9 @@
 
 mod begin;
 mod needs;
+mod one_record;
 mod progress;
 mod stream;
-mod turn;
 mod turns;
 mod worker;
 

@@ -1,5 +1,5 @@
 -- An alert event, before its first operation and after its last one.
-use Rattle.std.proofs.Common.{◌≡◌, ℕ, ◌+◌, ◌<◌, ◌≤◌, List, [], ◌++◌, append-nil, length, None, true, refl, sym, ap, ◌∙◌, subst, arith}
+use Rattle.std.proofs.Common.{◌≡◌, ℕ, ◌+◌, ◌<◌, ◌≤◌, List, [], append-nil, length, None, true, refl, sym, ap, ◌∙◌, subst, arith}
 use Rattle.std.specs.Prelude.{slice_get}
 use Rattle.pl_event.specs.declared.event.Kind.{Kind}
 use Rattle.pl_event.specs.Alerts.{is_alert_kind}
@@ -12,8 +12,8 @@ use Rattle.inherit_track.specs.declared.state.RegState.{RegState}
 use Rattle.inherit_track.specs.declared.state.RegState.TheVariants as reg
 use Rattle.inherit_track.specs.States.{state_in, with_state}
 use Rattle.meta_lookaside.specs.LookAside as look
-use Rattle.worker_laws.specs.Runs.{Run, before, shapes_at}
-use Rattle.worker_laws.specs.Kept.{HoldsNothing, Kept, Parts}
+use Rattle.worker_laws.specs.Runs.{before, shapes_at}
+use Rattle.worker_laws.specs.Kept.{HoldsNothing, Kept}
 use Rattle.worker_laws.proofs.Passing.{no_more}
 use Rattle.worker_laws.proofs.Taking.{come}
 use Rattle.worker_laws.proofs.Turning.{kept_alert}

@@ -31,4 +31,3 @@ impl State {
         monitor.advertise(seat, u64::from(self.taken));
     }
 }
-

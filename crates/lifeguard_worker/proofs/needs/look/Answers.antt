@@ -1,5 +1,5 @@
-use Rattle.std.proofs.Common.{◌<◌, ◌≡◌, sym, ◌∙◌, subst, ap}
-use Rattle.std.specs.Prelude.{slice_index_or, Option, None}
+use Rattle.std.proofs.Common.{◌<◌, sym, ◌∙◌, subst, ap}
+use Rattle.std.specs.Prelude.{slice_index_or, None}
 use Rattle.order_core.specs.declared.course.Course.{Course}
 use Rattle.guard_table.specs.Seats.{seat_view}
 use Rattle.lifeguard_worker.proofs.LookLemmas.{needed}

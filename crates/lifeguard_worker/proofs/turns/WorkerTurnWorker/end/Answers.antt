@@ -1,17 +1,15 @@
-use Rattle.std.proofs.Common.{◌≡◌, ℕ, ◌≤◌, sym, ap, ◌∙◌, subst, arith}
+use Rattle.std.proofs.Common.{◌≡◌, ℕ, ◌≤◌, ◌∙◌, subst, arith}
 use Rattle.std.specs.Prelude.{slice_index}
 use Rattle.std.proofs.lemmas.List.{length-take-le}
 use Rattle.order_core.specs.Course.{course_of, length_of}
 use Rattle.order_core.proofs.Known.{known}
 use Rattle.guard_table.specs.Seats.{seat_view}
 use Rattle.inherit_track.specs.States.{state_in}
-use Rattle.turn_worker.specs.Results.{IsResult}
-use Rattle.worker_laws.specs.Folds.{misses_at}
 use Rattle.worker_laws.specs.Kept.{Kept}
 use Rattle.worker_laws.specs.Runs.{Run}
 use Rattle.worker_laws.proofs.Ending.{all_checks, end_masks, end_reports}
 use Rattle.worker_records.specs.Places.{run_at}
-use Rattle.worker_records.specs.States.{IsKept, parts_of}
+use Rattle.worker_records.specs.States.{parts_of}
 use Rattle.worker_records.proofs.RegisterLemmas.{there}
 use Rattle.lifeguard_worker.proofs.HeldLemmas.{nothing_held}
 use Rattle.lifeguard_worker.proofs.MoveLemmas.{is_kept}

@@ -1,4 +1,4 @@
-use Rattle.std.proofs.Common.{◌≡◌, ℕ, ◌+◌, ◌<◌, ◌≤◌, true, List, length, take, ◌++◌, sym, ap, ◌∙◌, subst, arith}
+use Rattle.std.proofs.Common.{◌≡◌, ℕ, ◌+◌, ◌<◌, ◌≤◌, List, length, take, ◌++◌, sym, ap, subst, arith}
 use Rattle.std.proofs.lemmas.List.{length-take-le}
 use Rattle.pl_event.specs.declared.fed.Fed.{Fed}
 use Rattle.pl_event.specs.Feeds.{feds_of}

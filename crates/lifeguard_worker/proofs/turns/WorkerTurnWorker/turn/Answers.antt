@@ -1,9 +1,8 @@
-use Rattle.std.proofs.Common.{◌≡◌, ◌≢◌, ℕ, ◌+◌, ◌<◌, ◌≤◌, refl, sym, ap, ◌∙◌, subst, arith}
+use Rattle.std.proofs.Common.{◌≡◌, ◌+◌, ◌<◌, refl, sym, ap, ◌∙◌, subst, arith}
 use Rattle.guard_table.specs.declared.view.View.{View}
 use Rattle.guard_table.specs.Seats.{seat_view}
 use Rattle.turn_worker.specs.declared.worker.Turn.{Turn}
-use Rattle.turn_worker.specs.declared.worker.Turn.TheVariants.{Moved}
-use Rattle.turn_worker.specs.Turns.{IsAnswer, IsLaterBy}
+use Rattle.turn_worker.specs.Turns.{IsAnswer}
 use Rattle.turn_worker.specs.Workers.{WorkerView}
 use Rattle.lifeguard_worker.specs.Workers.{table_of, worker_view}
 use Rattle.lifeguard_worker.proofs.AnswerLemmas.{answer_last, later_less, later_more, later_none, steps_more}

@@ -1,9 +1,6 @@
 use Rattle.std.proofs.Common.{◌≡◌, ◌+◌}
 use Rattle.guard_table.specs.Seats.{seat_view}
 use Rattle.turn_worker.specs.Turns.{IsLaterBy}
-use Rattle.turn_worker.specs.Workers.{WorkerView}
-use Rattle.worker_laws.specs.Folds.{steps_at}
-use Rattle.worker_records.specs.Places.{run_at}
 use Rattle.lifeguard_worker.specs.Workers.{table_of, worker_view}
 use Rattle.lifeguard_worker.proofs.turns.WorkerTurnWorker.turn.Given as goal
 

@@ -1,19 +1,13 @@
-use Rattle.std.proofs.Common.{◌≡◌, ◌≢◌, ℕ, ◌+◌, ◌<◌, ◌≤◌, Some, length, sym, ap, ◌∙◌, subst, arith}
-use Rattle.std.specs.Prelude.{slice_get, slice_index}
+use Rattle.std.proofs.Common.{◌≡◌, ◌+◌, ◌<◌, sym, ap, ◌∙◌, subst, arith}
 use Rattle.pl_event.specs.Needs.{needs_of}
-use Rattle.order_core.specs.Course.{course_of}
-use Rattle.order_core.proofs.Known.{known}
 use Rattle.guard_table.specs.declared.view.View.{View}
 use Rattle.guard_table.specs.Seats.{seat_view}
 use Rattle.turn_worker.specs.declared.worker.Turn.{Turn}
 use Rattle.turn_worker.specs.Turns.{IsAnswer}
-use Rattle.worker_laws.specs.Runs.{Run}
 use Rattle.worker_records.specs.declared.state.State.{State}
-use Rattle.worker_records.specs.Places.{run_at}
-use Rattle.lifeguard_worker.specs.Turns.{HasSeenBelow, IsShort}
 use Rattle.lifeguard_worker.specs.Workers.{table_of, worker_view}
 use Rattle.lifeguard_worker.proofs.AnswerLemmas.{ready_then, waits_then}
-use Rattle.lifeguard_worker.proofs.MoveLemmas.{Moves, IsFedNext, fed_needs, fed_then, is_kept, looked_kept, met_next, moves_looked, moves_then, moves_told, next_fed, next_within, room_kept, worker_then}
+use Rattle.lifeguard_worker.proofs.MoveLemmas.{Moves, fed_needs, fed_then, is_kept, looked_kept, moves_looked, moves_then, moves_told, next_fed, room_kept, worker_then}
 use Rattle.lifeguard_worker.proofs.worker.Worker.turn_one.Goals as goal
 
 pub tell_all-self-requires-clause-kept : goal.tell_all-self-requires-clause-kept
@@ -91,6 +85,6 @@ take_record-requires-clause-fed g c =
     let v2 : View = seat_view c.keep_up-self.new.seat in
     let ne : w.state.taken ≡ w.fed → ⊥ = c.if-taken-self.false in
     let moves : Moves v v2 = moves_then v v1 v2 (moves_looked v v1 c.first_short.ensures.looked)
-        (moves_told v1 v2 c.keep_up-self.result c.keep_up-self.ensures.view (let rises = c.keep_up-self.ensures.rises in let same = ap (λ (z : View). z.progress) c.first_short.ensures.looked.same in omega (arith, rises, same, w.is.progress))) in
+    (moves_told v1 v2 c.keep_up-self.result c.keep_up-self.ensures.view (let rises = c.keep_up-self.ensures.rises in let same = ap (λ (z : View). z.progress) c.first_short.ensures.looked.same in omega (arith, rises, same, w.is.progress))) in
     fed_then v v2 w.state.taken c.keep_up-self.new.state.taken c.get-fed.result moves (ap (λ (z : State). z.taken) c.keep_up-self.ensures.others ∙ ap (λ (z : State). z.taken) c.make_room.ensures.others)
     (next_fed (g.L.Lifeguard.rules w.guard) v w.stream w.state.taken w.is.begins (omega (arith, ne, w.is.few, w.is.inside)) c.get-fed.result c.get-fed.ensures)

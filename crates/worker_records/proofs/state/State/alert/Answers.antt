@@ -1,4 +1,4 @@
-use Rattle.std.proofs.Common.{◌≡◌, ℕ, ◌+◌, ◌<◌, [], sym, ap, ◌∙◌, subst, arith}
+use Rattle.std.proofs.Common.{ℕ, ◌+◌, ◌<◌, [], sym, ap, subst, arith}
 use Rattle.guard_table.specs.declared.view.View.{View}
 use Rattle.guard_table.specs.Seats.{seat_view}
 use Rattle.worker_laws.specs.Runs.{Run, before, shapes_at}

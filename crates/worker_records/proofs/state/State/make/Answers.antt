@@ -1,4 +1,4 @@
-use Rattle.std.proofs.Common.{ℕ, ◌+◌, refl, subst}
+use Rattle.std.proofs.Common.{◌+◌, refl, subst}
 use Rattle.pl_event.specs.Valid.{HasValidFields}
 use Rattle.guard_table.specs.Seats.{seat_view}
 use Rattle.worker_records.specs.Places.{run_at}

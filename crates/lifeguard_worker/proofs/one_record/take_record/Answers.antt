@@ -1,7 +1,7 @@
 use Rattle.guard_table.specs.Seats.{seat_view}
 use Rattle.worker_records.specs.Places.{run_at}
 use Rattle.lifeguard_worker.proofs.FedLemmas.{event_kind, event_told}
-use Rattle.lifeguard_worker.proofs.turn.take_record.Goals as goal
+use Rattle.lifeguard_worker.proofs.one_record.take_record.Goals as goal
 
 pub take_event-requires-clause-next : goal.take_event-requires-clause-next
 take_event-requires-clause-next g c =

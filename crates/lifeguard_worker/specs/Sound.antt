@@ -24,8 +24,10 @@ first_part (x ∷ xs) zero (suc n) = refl
 first_part (x ∷ xs) (suc m) zero = refl
 first_part (x ∷ xs) (suc m) (suc n) = ap (λ (z : List Fed). x ∷ z) (first_part xs m n)
 
-pub begins_less : (whole stream : List Fed) (n : ℕ) → take (length stream) whole ≡ stream → take (length (take n stream)) whole ≡ take n stream
-begins_less whole stream n is = subst (λ (z : List Fed). take (length (take n z)) whole ≡ take n z) is (first_part whole (length stream) n)
+pub begins_less : (whole stream : List Fed) (n : ℕ) → take (length stream) whole ≡ stream
+    → take (length (take n stream)) whole ≡ take n stream
+begins_less whole stream n is =
+    subst (λ (z : List Fed). take (length (take n z)) whole ≡ take n z) is (first_part whole (length stream) n)
 
 pub is_sound : (rules : Rules) (seat : GuardSeat) (s : State) (told : ℕ) (stream : List Fed) (fed : ℕ) (ended : Bool)
     → IsWorker rules (seat_view seat) s told stream fed ended
@@ -42,7 +44,8 @@ is_sound rules seat s told stream fed ended is =
       few = subst (λ (n : ℕ). s.taken ≤ n) (sym all) is.few;
       within = is.kept.taken.within;
       met = is.kept.taken.met;
-      written = is.kept.taken.written ∙ ap (λ (c : Course). writes_before c v.hart (s.taken + 1) 0) (sym is.run.planned);
+      written = is.kept.taken.written
+          ∙ ap (λ (c : Course). writes_before c v.hart (s.taken + 1) 0) (sym is.run.planned);
       told = is.kept.taken.told;
       lag = is.kept.taken.lag;
     }

@@ -19,7 +19,8 @@ impl<L: Lifeguard> TurnWorker for Worker<L> {
 
     ghost guard = { λ w. w.guard };
 
-    ghost view = { λ w. worker_view (L.rules w.guard) (table_of w.seat) (seat_view w.seat) w.state w.stream w.fed w.ended };
+    ghost view = { λ w.
+        worker_view (L.rules w.guard) (table_of w.seat) (seat_view w.seat) w.state w.stream w.fed w.ended };
 
     fn hart(&self) -> u8 {
         self.seat.hart()

@@ -49,7 +49,8 @@ pub first_bad-requires-clause-narrow : goal.first_bad-requires-clause-narrow
 first_bad-requires-clause-narrow g c =
     let v = seat_view c.args.seat.now in
     let p : Run = run_at (g.L.Lifeguard.rules c.args.guard) v in
-    (fits p v.hart (c.args.self.now.taken + 1) c.requires.ready.run (check_of c.args.addr c.args.len) c.requires.reach).1
+    let f : c.args.addr % 4 + c.args.len ≤ 4 = (fits p v.hart (c.args.self.now.taken + 1) c.requires.ready.run (check_of c.args.addr c.args.len) c.requires.reach).1 in
+    omega (arith, f)
 
 pub first_bad-requires-clause-low : goal.first_bad-requires-clause-low
 first_bad-requires-clause-low g c i lt =

@@ -1,14 +1,10 @@
-use Rattle.std.proofs.Common.{◌≡◌, ◌≢◌, ℕ, zero, suc, ◌+◌, ◌-◌, ◌*◌, ◌/◌, ◌%◌, ◌<◌, ◌≤◌, true, Bool, Some, find, refl, sym, ap, ◌∙◌, subst, arith}
+use Rattle.std.proofs.Common.{ℕ, ◌+◌, ◌%◌, ◌≤◌, sym, ◌∙◌, subst, arith}
 use Rattle.guard_table.specs.Seats.{plan_of, seat_view}
-use Rattle.lifeguard.specs.State.{nibble_at, span}
 use Rattle.worker_laws.specs.Runs.{Run, before}
-use Rattle.worker_laws.specs.Reads.{directory_of, check_read, value_read}
+use Rattle.worker_laws.specs.Reads.{check_read}
 use Rattle.worker_records.specs.Checks.{check_of}
-use Rattle.worker_records.specs.Steps.{IsReadOf}
 use Rattle.worker_records.specs.Places.{run_at}
 use Rattle.worker_records.specs.States.{parts_of}
-use Rattle.worker_records.specs.Words.{TellsOf}
-use Rattle.shadow_frames.specs.Words.{shadow_word}
 use Rattle.worker_records.proofs.AccessLemmas.{check_may, check_told, directory_low, fits, unmapped_bad}
 use Rattle.worker_records.proofs.CountLemmas.{size_small}
 use Rattle.worker_records.proofs.state.State.make_check.Goals as goal

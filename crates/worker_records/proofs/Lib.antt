@@ -18,3 +18,4 @@ pub mod PageLemmas
 pub mod KeptPages
 pub mod MapLemmas
 pub mod OperateLemmas
+pub mod AlertLemmas

@@ -1,0 +1,5 @@
+pub mod FedLemmas
+pub mod LookLemmas
+pub mod MoveLemmas
+pub mod AnswerLemmas
+pub mod HeldLemmas

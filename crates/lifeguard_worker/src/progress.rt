@@ -57,6 +57,7 @@ pub(crate) fn keep_up<P: Plan, L: Lifeguard>(
     }
     match state.tracker.oldest() {
         Some(number) if taken + 1 < u64::from(number) + MAX_LAG => {
+            // The oldest held load is one of those that are taken.
             let upto = taken.min(u64::from(number) - 1);
             monitor.advertise(seat, upto);
             upto

@@ -1,5 +1,5 @@
 -- Operations by their names, where they may be made now.
-use Rattle.std.proofs.Common.{ℕ, Bool, refl, subst}
+use Rattle.std.proofs.Common.{◌≡◌, ℕ, Bool, refl, subst}
 use Rattle.order_core.specs.declared.course.Op.{Op}
 use Rattle.order_core.specs.Course.{Planned, course_of, operation_of}
 use Rattle.order_core.proofs.Named.{op_at}

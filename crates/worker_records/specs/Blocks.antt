@@ -1,5 +1,6 @@
 -- The operations on one block of a range of bytes, and what is found in it.
-use Rattle.std.specs.Prelude.{◌≡◌, ℕ, zero, suc, ◌+◌, ◌*◌, ◌-◌, ◌/◌, ◌<◌, ◌≤◌, List, length, Option, Some, None, max, min}
+use Rattle.std.specs.Prelude.{◌≡◌, ℕ, zero, suc, ◌+◌, ◌*◌, ◌-◌, ◌/◌, ◌<◌, ◌≤◌, List, length, max, min}
+use Rattle.std.specs.Prelude.{Option, Some, None}
 use Rattle.pl_base.specs.declared.layout.TheConstants.{BLOCK_BYTES, MAX_MAPPED_PAGES}
 use Rattle.lifeguard.specs.declared.guard.RangeKind.{RangeKind}
 use Rattle.lifeguard.specs.Rules.{Rules}

@@ -1,5 +1,5 @@
 -- The run that a seat belongs to.
-use Rattle.std.specs.Prelude.{◌≡◌}
+use Rattle.std.specs.Prelude.{◌≡◌, ℕ}
 use Rattle.lifeguard.specs.Rules.{Rules}
 use Rattle.order_core.specs.Course.{Planned}
 use Rattle.guard_table.specs.declared.view.View.{View}

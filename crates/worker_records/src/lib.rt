@@ -3,7 +3,8 @@
 //! What a worker keeps beside its seat is a state: for each register a mask or a held load, whose reads it makes when a
 //! rule asks for the mask; the frames of pages that it looked up, and the checks that passed; counts and reports. Each
 //! kind of record changes it, and a contract says that what it keeps is true of the plain run after the record, and
-//! which reads and writes it made. A notice is taken by `take_notice`, and an event of any kind by `take_event`.
+//! which reads and writes it made. A notice is taken by `take_notice`, and an event of any kind by `take_event`. The
+//! operations of an alert event are made block by block and page by page.
 #![tactic(auto)]
 
 mod accesses;

@@ -1,4 +1,4 @@
-//! The operations of alert events, block by block and page by page.
+//! The operations of alert events.
 ghost use Rattle.std.specs.Prelude.{◌≡◌, ℕ, ◌<◌, [], true};
 ghost use Rattle.pl_event.specs.Alerts.{is_alert_kind};
 ghost use Rattle.guard_table.specs.Seats.{seat_view};
@@ -17,7 +17,7 @@ use order_core::Plan;
 use pl_event::Kind;
 
 /// Makes all operations of an alert event, none of which is made yet.
-pub(crate) fn operate<P: Plan, L: Lifeguard>(
+pub fn operate<P: Plan, L: Lifeguard>(
     monitor: &Monitor<P>,
     seat: &mut GuardSeat,
     guard: L,

@@ -1,3 +1,4 @@
+use Rattle.std.proofs.Common.{ℕ}
 use Rattle.lifeguard.specs.State.{Bytes, nibble_at}
 use Rattle.worker_records.specs.Words.{TellsOf}
 use Rattle.worker_records.proofs.WordLemmas.{from_here}

@@ -1,14 +1,10 @@
-use Rattle.std.proofs.Common.{◌≡◌, ◌≢◌, ℕ, zero, suc, ◌+◌, ◌-◌, ◌*◌, ◌/◌, ◌%◌, ◌<◌, ◌≤◌, true, Bool, Some, find, refl, sym, ap, ◌∙◌, subst, arith}
+use Rattle.std.proofs.Common.{ℕ, ◌+◌, ◌%◌, ◌≤◌, sym, ◌∙◌, subst, arith}
 use Rattle.guard_table.specs.Seats.{plan_of, seat_view}
-use Rattle.lifeguard.specs.State.{nibble_at, span}
 use Rattle.worker_laws.specs.Runs.{Run, before}
-use Rattle.worker_laws.specs.Reads.{directory_of, check_read, value_read}
+use Rattle.worker_laws.specs.Reads.{check_read}
 use Rattle.worker_records.specs.Checks.{check_of}
-use Rattle.worker_records.specs.Steps.{IsReadOf}
 use Rattle.worker_records.specs.Places.{run_at}
 use Rattle.worker_records.specs.States.{parts_of}
-use Rattle.worker_records.specs.Words.{TellsOf}
-use Rattle.shadow_frames.specs.Words.{shadow_word}
 use Rattle.worker_records.proofs.AccessLemmas.{check_may, check_told, directory_low, fits, unmapped_bad}
 use Rattle.worker_records.proofs.CountLemmas.{size_small}
 use Rattle.worker_records.proofs.state.State.make_check.Goals as goal
@@ -49,7 +45,8 @@ pub first_bad-requires-clause-narrow : goal.first_bad-requires-clause-narrow
 first_bad-requires-clause-narrow g c =
     let v = seat_view c.args.seat.now in
     let p : Run = run_at (g.L.Lifeguard.rules c.args.guard) v in
-    (fits p v.hart (c.args.self.now.taken + 1) c.requires.ready.run (check_of c.args.addr c.args.len) c.requires.reach).1
+    let f : c.args.addr % 4 + c.args.len ≤ 4 = (fits p v.hart (c.args.self.now.taken + 1) c.requires.ready.run (check_of c.args.addr c.args.len) c.requires.reach).1 in
+    omega (arith, f)
 
 pub first_bad-requires-clause-low : goal.first_bad-requires-clause-low
 first_bad-requires-clause-low g c i lt =

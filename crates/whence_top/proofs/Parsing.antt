@@ -6,7 +6,7 @@ use Rattle.std.proofs.Common.{refl, ap, sym, subst, ◌∙◌, append_assoc, ari
 use Rattle.std.proofs.lemmas.List.{length-drop, length-map, take_all}
 use Rattle.std.proofs.lemmas.List.Elements.{All-cons, All-head, All-tail}
 use Rattle.whence_trail.specs.declared.trail.Pair.{Pair}
-use Rattle.whence_top.specs.Asking.{AsksFor, AsksForNone, MayAsk, words_of}
+use Rattle.whence_top.specs.Asking.{AsksForNone, MayAsk, words_of}
 
 -- two words spell a pair
 abbrev IsSpelled : List ℕ → List ℕ → Pair → Type 0

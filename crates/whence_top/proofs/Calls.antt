@@ -57,7 +57,10 @@ module _ (words : List (List ℕ)) (input out notes : Told) (pairs : List Pair) 
   read_whole bytes reads status.NoMemory t = (
     (
       (pairs, asks),
-      (reads_take kinds.Job input (λ read. read ≡ bytes) reads, reads_calm kinds.Job input (λ read. read ≡ bytes) reads),
+      (
+        reads_take kinds.Job input (λ read. read ≡ bytes) reads,
+        reads_calm kinds.Job input (λ read. read ≡ bytes) reads,
+      ),
       t.0,
       t.1,
     ),

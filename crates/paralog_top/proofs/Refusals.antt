@@ -70,8 +70,9 @@ log_refused told (log.Read end.TooLong) taken caused = (taken, caused)
 log_refused told (log.Read end.NoMemory) taken caused = (taken, caused)
 
 -- the input was not read to its end
-pub end_refused : (told : Told) (stop : ReadEnd) → TakesFront stop told.before told.after MAX_JOB_BYTES
-    → HasReadCause {T = List ℕ} told.faults_before told.faults_after (Err stop)
+pub end_refused : {T : Type 0} (told : Told) (stop : ReadEnd)
+    → TakesFront stop told.before told.after MAX_JOB_BYTES
+    → HasReadCause {T = T} told.faults_before told.faults_after (Err stop)
     → IsRefusal kinds.Job told (refusal_of_end stop)
 end_refused told end.Fault taken cause = (taken, cause.fault refl)
 end_refused told end.TooLong taken cause = (taken, cause.too_long refl)

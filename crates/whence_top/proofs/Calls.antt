@@ -1,16 +1,11 @@
 -- What the statuses say of a call, from what its parts say.
-use Rattle.std.specs.Prelude.{◌≡◌, ℕ, List, Err}
-use Rattle.std.proofs.Common.{refl, sym, subst}
+use Rattle.std.specs.Prelude.{◌≡◌, ℕ, List}
+use Rattle.std.proofs.Common.{sym, subst}
 use Rattle.pl_base.specs.declared.loops.ReadEnd.{ReadEnd}
 use Rattle.pl_base.specs.declared.loops.ReadEnd.TheVariants as end
-use Rattle.pl_base.specs.declared.layout.TheConstants.{MAX_JOB_BYTES}
-use Rattle.pl_base.specs.Causes.{HasReadCause}
-use Rattle.pl_base.specs.Fronts.{TakesFront}
 use Rattle.guest_asm.specs.Jobs.{HasFault}
 use Rattle.guest_asm.proofs.Verdicts.{no_job}
 use Rattle.paralog_top.specs.declared.input.Input.TheVariants as kinds
-use Rattle.paralog_top.specs.declared.refusal.Refusal.{Refusal}
-use Rattle.paralog_top.specs.declared.refusal.Refusal.TheVariants as refusal
 use Rattle.paralog_top.specs.declared.status.Status.{Status}
 use Rattle.paralog_top.specs.declared.status.Status.TheVariants as status
 use Rattle.paralog_top.specs.Answers.{IsJob}
@@ -62,7 +57,10 @@ module _ (words : List (List ℕ)) (input out notes : Told) (pairs : List Pair) 
   read_whole bytes reads status.NoMemory t = (
     (
       (pairs, asks),
-      (reads_take kinds.Job input (λ read. read ≡ bytes) reads, reads_calm kinds.Job input (λ read. read ≡ bytes) reads),
+      (
+        reads_take kinds.Job input (λ read. read ≡ bytes) reads,
+        reads_calm kinds.Job input (λ read. read ≡ bytes) reads,
+      ),
       t.0,
       t.1,
     ),
@@ -76,14 +74,6 @@ module _ (words : List (List ℕ)) (input out notes : Told) (pairs : List Pair) 
   not_whole end.Fault refused kept calm noted = (((pairs, asks), refused, kept, calm), noted)
   not_whole end.TooLong refused kept calm noted = (((pairs, asks), refused, kept, calm), noted)
   not_whole end.NoMemory refused kept calm noted = (((pairs, asks), refused, kept, calm), noted)
-
--- the input was not read to its end
-pub end_refused : {T : Type 0} (input : Told) (stop : ReadEnd) → TakesFront stop input.before input.after MAX_JOB_BYTES
-    → HasReadCause {T = T} input.faults_before input.faults_after (Err stop)
-    → IsRefusal kinds.Job input (refusal_of_end stop)
-end_refused input end.Fault taken cause = (taken, cause.fault refl)
-end_refused input end.TooLong taken cause = (taken, cause.too_long refl)
-end_refused input end.NoMemory taken cause = (taken, cause.no_memory refl)
 
 -- a good call is answered, or memory ran out
 pub complete : (words : List (List ℕ)) (input out notes : Told) → IsGood words input out → (s : Status)

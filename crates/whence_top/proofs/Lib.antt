@@ -1,2 +1,4 @@
 pub mod Parsing
+pub mod Spelled
+pub mod Told
 pub mod Calls

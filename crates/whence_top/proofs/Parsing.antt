@@ -1,12 +1,12 @@
 -- Words that name events, one pair after the other.
-use Rattle.std.specs.Prelude.{◌≡◌, ◌↔◌, ℕ, ◌+◌, ◌*◌, ◌<◌, ◌≤◌, Bool, true, false, List, [], ◌∷◌, ◌++◌, All, MatchOption}
+use Rattle.std.specs.Prelude.{◌≡◌, ◌↔◌, ℕ, ◌*◌, ◌<◌, ◌≤◌, Bool, true, false, List, [], ◌∷◌, ◌++◌, All, MatchOption}
 use Rattle.std.specs.Prelude.{IsTrue, Option, Some, None, length, map, drop, take, get_or, ◌-◌}
 use Rattle.std.specs.Fmt.{decimal}
 use Rattle.std.proofs.Common.{refl, ap, sym, subst, ◌∙◌, append_assoc, arith}
 use Rattle.std.proofs.lemmas.List.{length-drop, length-map, take_all}
 use Rattle.std.proofs.lemmas.List.Elements.{All-cons, All-head, All-tail}
 use Rattle.whence_trail.specs.declared.trail.Pair.{Pair}
-use Rattle.whence_top.specs.Asking.{AsksFor, AsksForNone, MayAsk, words_of}
+use Rattle.whence_top.specs.Asking.{AsksForNone, MayAsk, words_of}
 
 -- two words spell a pair
 abbrev IsSpelled : List ℕ → List ℕ → Pair → Type 0

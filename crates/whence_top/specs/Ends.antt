@@ -39,7 +39,8 @@ end_note end.NoMemory = memory_note
 
 -- what it says of the bytes of an input, of the output and of the notes
 abbrev pub Tells : List Pair → List ℕ → Told → Told → Status → Type 0
-Tells pairs bytes out notes status.Clean = (text : List ℕ) × IsAnswer pairs bytes text × IsWritten out text × IsKept notes
+Tells pairs bytes out notes status.Clean = (text : List ℕ) × IsAnswer pairs bytes text × IsWritten out text
+    × IsKept notes
 Tells pairs bytes out notes status.BadJob = (fault : JobFault) × HasFault bytes fault × IsKept out × IsFaultless out
     × IsNoted notes (job_note fault)
 Tells pairs bytes out notes status.WriteFault = (text : List ℕ) × IsAnswer pairs bytes text × IsCut out text

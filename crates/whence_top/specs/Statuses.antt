@@ -1,6 +1,5 @@
 -- What each status says of a call.
 use Rattle.std.specs.Prelude.{ℕ, List}
-use Rattle.pl_base.specs.declared.loops.ReadEnd.TheVariants as end
 use Rattle.pl_base.specs.Causes.{Rose}
 use Rattle.guest_asm.specs.declared.cause.JobFault.{JobFault}
 use Rattle.paralog_top.specs.declared.input.Input.TheVariants as kinds
@@ -11,7 +10,7 @@ use Rattle.paralog_top.specs.declared.status.Status.TheVariants as status
 use Rattle.paralog_top.specs.Answers.{IsJob}
 use Rattle.paralog_top.specs.Asked.{Told}
 use Rattle.paralog_top.specs.Notes.{IsKept, IsNoted}
-use Rattle.paralog_top.specs.Refusals.{HasInput, IsFaultless, IsRefusal, Reads, Takes}
+use Rattle.paralog_top.specs.Refusals.{HasInput, IsFaultless, IsRefusal, Reads}
 use Rattle.paralog_top.specs.Statuses.{IsCut, IsWritten}
 use Rattle.whence_trail.specs.declared.trail.Pair.{Pair}
 use Rattle.whence_top.specs.Answers.{IsAnswer}

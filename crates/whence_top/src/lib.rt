@@ -7,6 +7,8 @@
 mod answer;
 mod asked;
 mod ends;
+mod laws;
 mod top;
 
+pub use laws::one_answer;
 pub use top::whence_top;

@@ -1,4 +1,4 @@
-use Rattle.std.proofs.Common.{string_bytes, arith}
+use Rattle.std.proofs.Common.{string_bytes}
 use Rattle.whence_top.proofs.Parsing.{not_first, one_left, spells_more}
 use Rattle.whence_top.proofs.asked.+parse_more.Goals as goal
 

@@ -5,10 +5,11 @@ use Rattle.pl_base.specs.declared.layout.TheConstants.{MAX_JOB_BYTES}
 use Rattle.paralog_top.specs.declared.input.Input.TheVariants as kinds
 use Rattle.paralog_top.specs.Asked.{tells}
 use Rattle.paralog_top.specs.Refusals.{Reads}
+use Rattle.paralog_top.proofs.Refusals.{end_refused}
 use Rattle.whence_trail.specs.declared.trail.Pair.{Pair}
 use Rattle.whence_top.specs.Ends.{Tells}
 use Rattle.whence_top.specs.Statuses.{Says}
-use Rattle.whence_top.proofs.Calls.{end_refused, not_whole, read_whole}
+use Rattle.whence_top.proofs.Calls.{not_whole, read_whole}
 use Rattle.whence_top.proofs.top.answer_words.Goals as goal
 
 pub returns-in_default-clause-says : goal.returns-in_default-clause-says

@@ -1,0 +1,4 @@
+pub mod FeedingLemmas
+pub mod CrewLemmas
+pub mod LogLemmas
+pub mod ReadyLemmas

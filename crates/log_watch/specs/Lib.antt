@@ -1,0 +1,3 @@
+pub mod Feeding
+pub mod Watched
+pub mod Crews

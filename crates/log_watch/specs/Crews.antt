@@ -16,7 +16,8 @@ abbrev pub table_id_of : {P : Type 0} → Monitor P → TableId
 table_id_of m = m.table.shared.table_id
 
 -- by number, for each hart of the run a worker at this table that has done nothing and was fed nothing
-pub record AreFirst {W : Type 0} (view : W → WorkerView) (rules : Rules) (table : TableId) (c : Course) (workers : List W)
+pub record AreFirst {W : Type 0} (view : W →
+    WorkerView) (rules : Rules) (table : TableId) (c : Course) (workers : List W)
     : Type 0 where
   pub harts : length workers ≡ c.log.harts
   pub each : (k : ℕ) (w : W) → get_elem? workers k ≡ some w

@@ -19,7 +19,8 @@ pub record IsFedBy (start now : WorkerView) (piece told : List Fed) : Type 0 whe
 
 -- the worker of hart h may be fed this record next
 abbrev pub MayPush : {F : Type 0} → (F → WorkerView) → (F → List Fed) → ℕ → Fed → List F → Type 0
-MayPush {F} view piece h fed feedings = (f : F) → get_elem? feedings h ≡ some f → (start : WorkerView) × (told : List Fed)
+MayPush {F} view piece h fed feedings = (f : F) → get_elem? feedings h ≡ some f →
+    (start : WorkerView) × (told : List Fed)
     × IsFedBy start (view f) (piece f) told × Begins (told ++ fed ∷ []) (stream_of start)
 
 -- the worker of hart h has one record more, and the others are as they were

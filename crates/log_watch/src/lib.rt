@@ -1,7 +1,7 @@
 //! The workers of a whole log: each is fed the records of its hart, all are run, and the shared table is closed.
 //!
-//! The plan of an ordered log makes the table, and each hart gets a seat and a worker. The log is passed once: each line
-//! goes to its hart's worker as it is taken there. After the run the seats are given back, so that the table's words are
+//! The plan of an ordered log makes the table, and each hart gets a seat and a worker. The log is passed once, and each
+//! line goes to the worker of its hart. After the run the seats are joined again, so that the words of the table are
 //! those of the plain state. What the harts found, with these words, is the plain result of the log.
 #![tactic(auto)]
 

@@ -81,7 +81,7 @@ impl<N: RunName> Ring<N> {
         self.queue.push_as::<Offer, R>(rt, &mut pass.pass, chunk)
     }
 
-    /// Takes the chunk at the front: the next piece of the hart's stream. None where the ring had no chunk at a moment
+    /// Takes the oldest chunk: the next piece of the hart's stream. None where the ring had no chunk at a moment
     /// of this call.
     pub fn take<R: Wait>(&self, rt: &R, pass: &mut TakePass<N>) -> Option<Chunk>
         requires of { IsTakeOf self.now pass.old }

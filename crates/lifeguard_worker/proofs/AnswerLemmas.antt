@@ -26,15 +26,15 @@ use Rattle.worker_records.specs.Places.{run_at}
 use Rattle.worker_records.specs.States.{IsKept, IsReady, parts_of}
 use Rattle.lifeguard_worker.specs.declared.needs.Short.{Short}
 use Rattle.lifeguard_worker.specs.Turns.{HasLooked, HasSeenBelow, IsShort}
-use Rattle.lifeguard_worker.specs.Workers.{Begins, IsWorker, worker_view}
+use Rattle.lifeguard_worker.specs.Workers.{IsWorker, stream_of, worker_view}
 use Rattle.lifeguard_worker.proofs.LookLemmas.{need_at}
 use Rattle.lifeguard_worker.proofs.MoveLemmas.{Moves, met_next, moves_looked, moves_then, moves_told, next_within, worker_then}
 
-module _ (rules : Rules) (table : TableId) (w : View) (t : State) (told : ℕ) (stream : List Fed) (fed : ℕ) (ended : Bool) (is : IsWorker rules w t told stream fed ended) (all : w.progress ≡ t.taken) where
-  size : length (take fed stream) ≡ fed
-  size = length-take-le fed stream is.inside
+module _ (rules : Rules) (table : TableId) (w : View) (t : State) (told before : ℕ) (stream : List Fed) (fed : ℕ) (ended : Bool) (is : IsWorker rules w t told before stream fed ended) (all : w.progress ≡ t.taken) where
+  size : length (take fed (stream_of w)) ≡ fed
+  size = length-take-le fed (stream_of w) is.within
 
-  pub used_up : t.taken ≡ fed → IsUsedUp (worker_view rules table w t stream fed ended)
+  pub used_up : t.taken ≡ fed → IsUsedUp (worker_view rules table w t fed ended)
   used_up e = record { all = e ∙ sym size; told = all }
 
   module _ (kept : IsKept rules w t) (left : t.taken < fed) (v0 v : View) (short : Short) (is_short : IsShort (needs_of w.course.log.lines w.hart (t.taken + 1)) v0 v short) (seen : w.seen ≡ v.seen) (learnt : w.learnt ≡ v.learnt) where
@@ -66,7 +66,7 @@ module _ (rules : Rules) (table : TableId) (w : View) (t : State) (told : ℕ) (
     cursor : IsCursor w.course w.written (slice_index w.seen) w.hart t.taken
     cursor = record { passed = passed; most = within }
 
-    pub waiting : IsWaiting (worker_view rules table w t stream fed ended) short.hart short.need short.seen
+    pub waiting : IsWaiting (worker_view rules table w t fed ended) short.hart short.need short.seen
     waiting = record {
       left = subst (λ (n : ℕ). t.taken < n) (sym size) left;
       told = all;
@@ -83,25 +83,25 @@ module _ (rules : Rules) (table : TableId) (w : View) (t : State) (told : ℕ) (
 
 -- ---- within a turn
 
-module _ (rules : Rules) (table table' : TableId) (v v1 v2 : View) (s t : State) (told : ℕ) (stream : List Fed) (fed : ℕ) (ended : Bool) (is : IsWorker rules v s told stream fed ended) (left : s.taken < fed) (looked : HasLooked v v1) where
+module _ (rules : Rules) (table table' : TableId) (v v1 v2 : View) (s t : State) (told before : ℕ) (stream : List Fed) (fed : ℕ) (ended : Bool) (is : IsWorker rules v s told before stream fed ended) (left : s.taken < fed) (looked : HasLooked v v1) where
   course : v1.course ≡ v.course
   course = ap (λ (z : View). z.course) looked.same
 
   -- after looks of which one found too little, all that is taken is told
   pub waits_then : (upto : ℕ) → upto ≡ s.taken → v2 ≡ advertised upto v1 → IsKept rules v2 t → t.taken ≡ s.taken → (needs : List (Option ℕ)) → needs ≡ needs_of v.course.log.lines v.hart (s.taken + 1) → (short : Short) → IsShort needs v v1 short
-      → IsAnswer 1 (worker_view rules table v s stream fed ended) (worker_view rules table' v2 t stream fed ended) (Waiting short.hart short.need short.seen)
+      → IsAnswer 1 (worker_view rules table v s fed ended) (worker_view rules table' v2 t fed ended) (Waiting short.hart short.need short.seen)
   waits_then upto all view kept taken needs needs_is short is_short =
       let shown : v1.progress ≡ told = ap (λ (z : View). z.progress) looked.same ∙ is.progress in
       let low : v.progress ≤ s.taken = is.kept.taken.told in
       let moves : Moves v v2 = moves_then v v1 v2 (moves_looked v v1 looked) (moves_told v1 v2 upto view (omega (arith, shown, all, low, is.progress))) in
       let told_all : v2.progress ≡ t.taken = ap (λ (z : View). z.progress) view ∙ (all ∙ sym taken) in
       let few : t.taken ≤ fed = omega (arith, taken, left) in
-      let now : IsWorker rules v2 t t.taken stream fed ended = worker_then rules v v2 s t told t.taken stream fed ended is moves kept told_all few in
+      let now : IsWorker rules v2 t t.taken before stream fed ended = worker_then rules v v2 s t told t.taken before stream fed ended is moves kept told_all (omega (arith, taken)) few in
       let same : needs ≡ needs_of v2.course.log.lines v2.hart (t.taken + 1) = needs_is ∙ (ap (λ (n : ℕ). needs_of v.course.log.lines v.hart (n + 1)) (sym taken) ∙ ap (λ (z : View). needs_of z.course.log.lines z.hart (t.taken + 1)) (sym moves.same)) in (
         (omega (arith, taken)),
         (let a : slice_index v.looks short.hart < slice_index v1.looks short.hart = is_short.looked in
             subst (λ (z : View). slice_index v.looks short.hart < slice_index z.looks short.hart) (sym view) a),
-        waiting rules table' v2 t t.taken stream fed ended now told_all kept (omega (arith, taken, left)) v v1 short
+        waiting rules table' v2 t t.taken before stream fed ended now told_all kept (omega (arith, taken, left)) v v1 short
             (subst (λ (z : List (Option ℕ)). IsShort z v v1 short) same is_short)
             (ap (λ (z : View). z.seen) view) (ap (λ (z : View). z.learnt) view),
       )
@@ -112,13 +112,13 @@ module _ (rules : Rules) (table table' : TableId) (v v1 v2 : View) (s t : State)
       let all : v2.course ≡ v.course = ap (λ (z : View). z.course) view ∙ course in
       let hart : v2.hart ≡ v.hart = ap (λ (z : View). z.hart) view ∙ ap (λ (z : View). z.hart) looked.same in
       let same : needs ≡ needs_of v2.course.log.lines v2.hart (t.taken + 1) = needs_is ∙ (ap (λ (n : ℕ). needs_of v.course.log.lines v.hart (n + 1)) (sym taken) ∙ (ap (λ (z : Course). needs_of z.log.lines v.hart (t.taken + 1)) (sym all) ∙ ap (λ (z : ℕ). needs_of v2.course.log.lines z (t.taken + 1)) (sym hart))) in
-      let begins : Begins v2 stream = subst (λ (z : Course). take (length stream) (feds_of v2.hart z.log.lines) ≡ stream) (sym all) (subst (λ (h : ℕ). take (length stream) (feds_of h v.course.log.lines) ≡ stream) (sym hart) is.begins) in
+      let within : fed ≤ length (stream_of v2) = subst (λ (z : Course). fed ≤ length (feds_of v2.hart z.log.lines)) (sym all) (subst (λ (h : ℕ). fed ≤ length (feds_of h v.course.log.lines)) (sym hart) is.within) in
       let k = known (course_of (run_at rules v2).plan) kept.run.lawful in
       record {
         run = kept.run;
         kept = kept.kept;
         next = record {
-          within = next_within rules v2 stream t.taken begins (omega (arith, taken, left, is.inside));
+          within = next_within rules v2 fed t.taken within (omega (arith, taken, left));
           met = met_next (course_of (run_at rules v2).plan) k v2 v2.hart t.taken kept.kept.taken.met
               (subst (λ (z : List (Option ℕ)). HasSeenBelow z v2 8) same (subst (λ (z : View). HasSeenBelow needs z 8) (sym view) below));
           near = (let e : v2.progress ≡ upto = ap (λ (z : View). z.progress) view in omega (arith, e, taken, near));

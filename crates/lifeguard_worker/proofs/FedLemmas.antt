@@ -1,6 +1,8 @@
 -- Records that are fed: they are the next ones of the hart's stream.
-use Rattle.std.proofs.Common.{◌≡◌, ℕ, ◌+◌, ◌<◌, ◌≤◌, suc, Bool, true, false, cond, filter, if◌then◌else◌, List, [], ◌∷◌, ◌++◌, length, take, get_or, refl, sym, ap, ◌∙◌, subst, arith}
-use Rattle.std.proofs.lemmas.List.{get_or-append-add, get_or-take, length-append, length-take, length-take-le, take_more}
+use Rattle.std.proofs.Common.{◌≡◌, ℕ, ◌+◌, ◌-◌, ◌<◌, ◌≤◌, suc, Bool, true, false, cond, filter, if◌then◌else◌, List, [], ◌∷◌, ◌++◌, drop, length, take, get_or, Some, refl, sym, ap, ◌∙◌, subst, arith}
+use Rattle.std.proofs.lemmas.List.{drop-append-le, drop-take, get_or-append-add, get_or-drop, get_or-take, length-append, length-take, length-take-le, take-take, take_more}
+use Rattle.std.proofs.lemmas.Option.{get_or_from_slice_get, slice_get-get_or}
+use Rattle.std.specs.Prelude.{slice_get}
 use Rattle.pl_event.specs.declared.event.Event.{Event}
 use Rattle.pl_event.specs.declared.fed.Fed.{Fed}
 use Rattle.pl_event.specs.declared.log.Line.{Line}
@@ -12,7 +14,6 @@ use Rattle.pl_event.proofs.Sources.{found}
 use Rattle.lifeguard.specs.Plain.{reports_of}
 use Rattle.worker_laws.specs.Runs.{IsKind, IsRun, Run, before, kind_in, kind_of, reports_before}
 use Rattle.worker_laws.proofs.Own.{event_reports}
-use Rattle.lifeguard_worker.specs.Sound.{begins_less}
 
 -- ---- the stream grows by a record that follows
 
@@ -46,22 +47,34 @@ length_from lines h i (l ∷ rest) = by (length_from lines h (suc i) rest) (is_o
 pub length_feds : (lines : List Line) (h : ℕ) → length (feds_of h lines) ≡ records_before h lines (length lines)
 length_feds lines h = length_from lines h 0 lines
 
--- ---- what was fed, after more was fed
+-- ---- a list whose records stand in the whole from a place on
 
-module _ (whole stream stream' : List Fed) (n : ℕ) (begins : take (length stream) whole ≡ stream) (begins' : take (length stream') whole ≡ stream') where
-  pub fed_same : n ≤ length stream → n ≤ length stream' → take n stream' ≡ take n stream
-  fed_same le le' = sym (begins_at stream' begins' le') ∙ begins_at stream begins le
-    where
-      begins_at : (xs : List Fed) → take (length xs) whole ≡ xs → n ≤ length xs → take n whole ≡ take n xs
-      begins_at xs is lt = ap (λ (k : ℕ). take k whole) (sym (length-take-le n xs lt)) ∙ begins_less whole xs n is
+module _ (whole stream : List Fed) (b : ℕ) (follows : take (length stream) (drop b whole) ≡ stream) where
+  -- the record at a place of the whole is read at that place in the list
+  pub at_taken : (n fed : ℕ) → b ≤ n → n < fed → fed ≤ b + length stream → fed ≤ length whole → (next : Fed) → slice_get stream (n - b) ≡ Some next → slice_get (take fed whole) n ≡ Some next
+  at_taken n fed low left inside within next got =
+      let size : length (take fed whole) ≡ fed = length-take-le fed whole within in
+      let place : b + (n - b) ≡ n = omega (arith, low) in
+      slice_get-get_or (take fed whole) n next (omega (arith, size, left))
+      ∙ ap (λ (z : Fed). Some z) (get_or-take fed whole n next left
+      ∙ (ap (λ (k : ℕ). get_or whole k next) (sym place)
+      ∙ (sym (get_or-drop b whole (n - b) next)
+      ∙ (sym (get_or-take (length stream) (drop b whole) (n - b) next (omega (arith, low, left, inside)))
+      ∙ (ap (λ (z : List Fed). get_or z (n - b) next) follows ∙ get_or_from_slice_get stream (n - b) next next got)))))
 
-  pub fed_grown : (fed : List Fed) → n ≤ length stream → n + length fed ≤ length stream' → take (length (take n stream) + length fed) whole ≡ take n stream ++ fed → take (n + length fed) stream' ≡ take n stream ++ fed
-  fed_grown fed le all next =
-      ap (λ (k : ℕ). take (k + length fed) stream') (sym (length-take-le n stream le))
-      ∙ (sym (at (length (take n stream) + length fed) (let e : length (take n stream) ≡ n = length-take-le n stream le in omega (arith, e, all))) ∙ next)
-    where
-      at : (m : ℕ) → m ≤ length stream' → take m whole ≡ take m stream'
-      at m lt = ap (λ (k : ℕ). take k whole) (sym (length-take-le m stream' lt)) ∙ begins_less whole stream' m begins'
+  -- what follows so many first records of the whole follows the rest of them in the list
+  pub next_after : (fed : ℕ) (more : List Fed) → b ≤ fed → fed ≤ b + length stream → fed ≤ length whole → take (fed + length more) whole ≡ take fed whole ++ more → take (fed - b + length more) (drop b whole) ≡ take (fed - b) stream ++ more
+  next_after fed more low inside within next =
+      let size : length (take fed whole) ≡ fed = length-take-le fed whole within in
+      let place : fed + length more ≡ b + (fed - b + length more) = omega (arith, low) in
+      let first : fed ≡ b + (fed - b) = omega (arith, low) in
+      let kept : take (fed - b) (drop b whole) ≡ take (fed - b) stream = sym (take-take (fed - b) (length stream) (drop b whole) (omega (arith, inside))) ∙ ap (λ (z : List Fed). take (fed - b) z) follows in
+      let rest : drop b (take fed whole) ≡ take (fed - b) stream = ap (λ (k : ℕ). drop b (take k whole)) first ∙ (drop-take b (fed - b) whole ∙ kept) in
+      sym (drop-take b (fed - b + length more) whole)
+      ∙ (ap (λ (k : ℕ). drop b (take k whole)) (sym place)
+      ∙ (ap (λ (z : List Fed). drop b z) next
+      ∙ (drop-append-le b (take fed whole) more (omega (arith, size, low))
+      ∙ ap (λ (z : List Fed). z ++ more) rest)))
 
 pub fed_inside : (whole first fed : List Fed) → take (length first + length fed) whole ≡ first ++ fed → length first + length fed ≤ length whole
 fed_inside whole first fed next = long whole first fed (length first) refl next

@@ -1,12 +1,13 @@
 -- What the parts of a turn do to a worker.
 use Rattle.std.proofs.Common.{◌≡◌, ℕ, ◌+◌, ◌-◌, ◌*◌, ◌<◌, ◌≤◌, Bool, true, false, List, [], ◌∷◌, Some, length, take, refl, sym, ap, ◌∙◌, subst, arith}
 use Rattle.std.specs.Prelude.{slice_get, slice_index}
+use Rattle.std.proofs.lemmas.List.{length-take-le}
 use mathlib.Core.Logic.{dite}
 use native.Mathlib.Decide.{ℕ_discrete}
 use Rattle.atomic_table.specs.Seated.{TableId}
 use Rattle.pl_event.specs.declared.fed.Fed.{Fed}
 use Rattle.pl_event.specs.declared.log.Line.{Line}
-use Rattle.pl_event.specs.Feeds.{fed_at, feds_of}
+use Rattle.pl_event.specs.Feeds.{fed_at}
 use Rattle.pl_event.specs.Needs.{need_of, needs_of}
 use Rattle.pl_event.specs.Records.{records_before, IsRecord}
 use Rattle.lifeguard.specs.Rules.{KeepsLaws, Rules}
@@ -35,7 +36,8 @@ use Rattle.worker_records.specs.Accesses.{HasWritten}
 use Rattle.worker_records.specs.Places.{IsAt, run_at}
 use Rattle.worker_records.specs.States.{IsKept, parts_of, spare}
 use Rattle.lifeguard_worker.specs.Turns.{HasLooked, HasSeenBelow}
-use Rattle.lifeguard_worker.specs.Workers.{Begins, IsOfRun, IsWorker, worker_view}
+use Rattle.lifeguard_worker.specs.Workers.{IsOfRun, IsWorker, stream_of, worker_view}
+use Rattle.lifeguard_worker.proofs.FedLemmas.{at_taken}
 use Rattle.lifeguard_worker.proofs.LookLemmas.{kept_looks, need_at}
 
 -- ---- the seat
@@ -95,8 +97,8 @@ steps_then rules v w moves = ap (λ (z : View). steps_at (run_at rules z) z.hart
 
 -- ---- what a worker keeps
 
-pub is_kept : (rules : Rules) (v : View) (s : State) (told : ℕ) (stream : List Fed) (fed : ℕ) (ended : Bool) → KeepsLaws rules → IsWorker rules v s told stream fed ended → IsKept rules v s
-is_kept rules v s told stream fed ended laws is = record {
+pub is_kept : (rules : Rules) (v : View) (s : State) (told before : ℕ) (stream : List Fed) (fed : ℕ) (ended : Bool) → KeepsLaws rules → IsWorker rules v s told before stream fed ended → IsKept rules v s
+is_kept rules v s told before stream fed ended laws is = record {
   run = log_is_run rules v.course.log laws (subst (λ (c : Course). ∥ IsLawful c ∥₁) is.run.planned is.run.lawful);
   kept = is.kept;
 }
@@ -108,24 +110,26 @@ kept_at rules v w s moves is kept = subst (λ (z : View). IsKept rules z s) (sym
 pub same_parts : (s t : State) → t ≡ record s { reports = t.reports } → t.reports.items ≡ s.reports.items → parts_of t ≡ parts_of s
 same_parts s t others items = ap parts_of others ∙ ap (λ (z : _). record (parts_of s) { reports = z }) items
 
-pub worker_then : (rules : Rules) (v w : View) (s t : State) (told told' : ℕ) (stream : List Fed) (fed : ℕ) (ended : Bool) → IsWorker rules v s told stream fed ended → Moves v w → IsKept rules w t → w.progress ≡ told' → t.taken ≤ fed
-    → IsWorker rules w t told' stream fed ended
-worker_then rules v w s t told told' stream fed ended is moves kept shown few = subst (λ (z : View). IsWorker rules z t told' stream fed ended) (sym moves.same)
+pub worker_then : (rules : Rules) (v w : View) (s t : State) (told told' before : ℕ) (stream : List Fed) (fed : ℕ) (ended : Bool) → IsWorker rules v s told before stream fed ended → Moves v w → IsKept rules w t → w.progress ≡ told' → s.taken ≤ t.taken → t.taken ≤ fed
+    → IsWorker rules w t told' before stream fed ended
+worker_then rules v w s t told told' before stream fed ended is moves kept shown up few = subst (λ (z : View). IsWorker rules z t told' before stream fed ended) (sym moves.same)
     (record {
       run = record { lawful = is.run.lawful; planned = is.run.planned };
       kept = subst (λ (z : View). Kept (run_at rules z) z.hart z t.taken (parts_of t)) moves.same kept.kept;
       progress = shown;
-      begins = is.begins;
+      forgotten = omega (arith, up, is.forgotten);
+      follows = is.follows;
       inside = is.inside;
+      within = is.within;
       few = few;
       whole = is.whole;
     })
 
-pub later_then : (rules : Rules) (table table' : TableId) (v w : View) (s t : State) (stream : List Fed) (fed : ℕ) (ended : Bool) (n : ℕ) → table' ≡ table → Moves v w → s.taken ≤ t.taken → t.taken ≤ s.taken + n → spare s ≤ spare t + 3 * (t.taken - s.taken)
-    → IsLaterBy n (worker_view rules table v s stream fed ended) (worker_view rules table' w t stream fed ended)
-later_then rules table table' v w s t stream fed ended n e moves up few room = subst (λ (z : TableId). IsLaterBy n (worker_view rules table v s stream fed ended) (worker_view rules z w t stream fed ended)) (sym e)
+pub later_then : (rules : Rules) (table table' : TableId) (v w : View) (s t : State) (fed : ℕ) (ended : Bool) (n : ℕ) → table' ≡ table → Moves v w → s.taken ≤ t.taken → t.taken ≤ s.taken + n → spare s ≤ spare t + 3 * (t.taken - s.taken)
+    → IsLaterBy n (worker_view rules table v s fed ended) (worker_view rules table' w t fed ended)
+later_then rules table table' v w s t fed ended n e moves up few room = subst (λ (z : TableId). IsLaterBy n (worker_view rules table v s fed ended) (worker_view rules z w t fed ended)) (sym e)
     (record {
-      same = ap (λ (z : View). record (worker_view rules table z t stream fed ended) { seat = w }) moves.same;
+      same = ap (λ (z : View). record (worker_view rules table z t fed ended) { seat = w }) moves.same;
       seat = moves.same;
       taken = up;
       few = few;
@@ -138,14 +142,27 @@ later_then rules table table' v w s t stream fed ended n e moves up few room = s
 
 -- ---- the next record
 
-pub next_fed : (rules : Rules) (v : View) (stream : List Fed) (n : ℕ) → Begins v stream → n < length stream → (fed : Fed) → slice_get stream n ≡ Some fed
-    → (i : ℕ) × (line : Line) × IsRecord v.course.log.lines i v.hart (n + 1) line × (fed ≡ fed_at v.course.log.lines i line)
-next_fed rules v stream n begins lt fed got =
-    let t = fed_record (run_at rules v) v.hart stream begins n lt in
-    (t.0, t.1, t.2, some_is fed (fed_at v.course.log.lines t.0 t.1) (sym got ∙ t.3))
+-- the first records of a stream, which are there
+first_of : (v : View) (m : ℕ) → m ≤ length (stream_of v) → take (length (take m (stream_of v))) (stream_of v) ≡ take m (stream_of v)
+first_of v m le = ap (λ (n : ℕ). take n (stream_of v)) (length-take-le m (stream_of v) le)
 
-pub next_within : (rules : Rules) (v : View) (stream : List Fed) (n : ℕ) → Begins v stream → n < length stream → n + 1 ≤ size (run_at rules v) v.hart
-next_within rules v stream n begins lt = fed_within (run_at rules v) v.hart stream begins n lt
+pub next_fed : (rules : Rules) (v : View) (s : State) (told before : ℕ) (stream : List Fed) (fed : ℕ) (ended : Bool) → IsWorker rules v s told before stream fed ended → s.taken < fed → (next : Fed) → slice_get stream (s.taken - before) ≡ Some next
+    → (i : ℕ) × (line : Line) × IsRecord v.course.log.lines i v.hart (s.taken + 1) line × (next ≡ fed_at v.course.log.lines i line)
+next_fed rules v s told before stream fed ended is left next got =
+    let whole : List Fed = stream_of v in
+    let size : length (take fed whole) ≡ fed = length-take-le fed whole is.within in
+    let t = fed_record (run_at rules v) v.hart (take fed whole) (first_of v fed is.within) s.taken (omega (arith, size, left)) in (
+      t.0,
+      t.1,
+      t.2,
+      some_is next (fed_at v.course.log.lines t.0 t.1)
+          (sym (at_taken whole stream before is.follows s.taken fed is.forgotten left is.inside is.within next got) ∙ t.3),
+    )
+
+pub next_within : (rules : Rules) (v : View) (fed n : ℕ) → fed ≤ length (stream_of v) → n < fed → n + 1 ≤ size (run_at rules v) v.hart
+next_within rules v fed n within lt =
+    let size : length (take fed (stream_of v)) ≡ fed = length-take-le fed (stream_of v) within in
+    fed_within (run_at rules v) v.hart (take fed (stream_of v)) (first_of v fed within) n (omega (arith, size, lt))
 
 pub fed_needs : (lines : List Line) (h i m : ℕ) (line : Line) → IsRecord lines i h m line → (fed : Fed) → fed ≡ fed_at lines i line → fed.needs ≡ needs_of lines h m
 fed_needs lines h i m line is fed e = ap (λ (f : Fed). f.needs) e ∙ (ap (λ (z : ℕ). needs_of lines z (records_before z lines i + 1)) is.hart ∙ ap (needs_of lines h) is.number)
@@ -164,37 +181,39 @@ pub fed_then : (v w : View) (n n' : ℕ) (fed : Fed) → Moves v w → n' ≡ n 
 fed_then v w n n' fed moves e is = subst (λ (z : View). IsFedNext z n' fed) (sym moves.same) (subst (λ (k : ℕ). IsFedNext v k fed) (sym e) is)
 
 -- after room was made for reports
-pub room_kept : (rules : Rules) (v w : View) (s t : State) (told : ℕ) (stream : List Fed) (fed : ℕ) (ended : Bool) → KeepsLaws rules → IsWorker rules v s told stream fed ended → HasLooked v w
+pub room_kept : (rules : Rules) (v w : View) (s t : State) (told before : ℕ) (stream : List Fed) (fed : ℕ) (ended : Bool) → KeepsLaws rules → IsWorker rules v s told before stream fed ended → HasLooked v w
     → t ≡ record s { reports = t.reports } → t.reports.items ≡ s.reports.items → IsKept rules w t
-room_kept rules v w s t told stream fed ended laws is looked others items =
+room_kept rules v w s t told before stream fed ended laws is looked others items =
     let same : t.taken ≡ s.taken = ap (λ (z : State). z.taken) others in
     kept_at rules v w t (moves_looked v w looked) (record {
-      run = (is_kept rules v s told stream fed ended laws is).run;
+      run = (is_kept rules v s told before stream fed ended laws is).run;
       kept = subst (λ (z : Parts). Kept (run_at rules v) v.hart v t.taken z) (sym (same_parts s t others items)) (subst (λ (n : ℕ). Kept (run_at rules v) v.hart v n (parts_of s)) (sym same) is.kept);
     })
     (subst (λ (z : Parts). Kept (run_at rules v) v.hart w t.taken z) (sym (same_parts s t others items)) (subst (λ (n : ℕ). Kept (run_at rules v) v.hart w n (parts_of s)) (sym same)
     (kept_looks (run_at rules v) v.hart v w s.taken (parts_of s) looked is.kept)))
 
-pub looked_kept : (rules : Rules) (v w : View) (s : State) (told : ℕ) (stream : List Fed) (fed : ℕ) (ended : Bool) → KeepsLaws rules → IsWorker rules v s told stream fed ended → HasLooked v w → IsKept rules w s
-looked_kept rules v w s told stream fed ended laws is looked =
-    kept_at rules v w s (moves_looked v w looked) (is_kept rules v s told stream fed ended laws is) (kept_looks (run_at rules v) v.hart v w s.taken (parts_of s) looked is.kept)
+pub looked_kept : (rules : Rules) (v w : View) (s : State) (told before : ℕ) (stream : List Fed) (fed : ℕ) (ended : Bool) → KeepsLaws rules → IsWorker rules v s told before stream fed ended → HasLooked v w → IsKept rules w s
+looked_kept rules v w s told before stream fed ended laws is looked =
+    kept_at rules v w s (moves_looked v w looked) (is_kept rules v s told before stream fed ended laws is) (kept_looks (run_at rules v) v.hart v w s.taken (parts_of s) looked is.kept)
 
 -- a note is learnt
-pub worker_learnt : (rules : Rules) (v : View) (s : State) (told : ℕ) (stream : List Fed) (fed : ℕ) (ended : Bool) → KeepsLaws rules → IsWorker rules v s told stream fed ended → (note : View) → IsWorker rules (learnt_from note v) s told stream fed ended
-worker_learnt rules v s told stream fed ended laws is note =
-    let run = (is_kept rules v s told stream fed ended laws is).run in
+pub worker_learnt : (rules : Rules) (v : View) (s : State) (told before : ℕ) (stream : List Fed) (fed : ℕ) (ended : Bool) → KeepsLaws rules → IsWorker rules v s told before stream fed ended → (note : View) → IsWorker rules (learnt_from note v) s told before stream fed ended
+worker_learnt rules v s told before stream fed ended laws is note =
+    let run = (is_kept rules v s told before stream fed ended laws is).run in
     record {
       run = record { lawful = is.run.lawful; planned = is.run.planned };
       kept = kept_learnt (run_at rules v) run (known (course_of (run_at rules v).plan) run.lawful) v.hart v s.taken (parts_of s) is.kept note;
       progress = is.progress;
-      begins = is.begins;
+      forgotten = is.forgotten;
+      follows = is.follows;
       inside = is.inside;
+      within = is.within;
       few = is.few;
       whole = is.whole;
     }
 
 -- at the start
-pub worker_first : (rules : Rules) (v : View) (s : State) (stream : List Fed) → KeepsLaws rules → IsOfRun rules v → v.written ≡ 0 → v.progress ≡ 0 → s.taken ≡ 0 → parts_of s ≡ first_parts → stream ≡ [] → IsWorker rules v s 0 stream 0 false
+pub worker_first : (rules : Rules) (v : View) (s : State) (stream : List Fed) → KeepsLaws rules → IsOfRun rules v → v.written ≡ 0 → v.progress ≡ 0 → s.taken ≡ 0 → parts_of s ≡ first_parts → stream ≡ [] → IsWorker rules v s 0 0 stream 0 false
 worker_first rules v s stream laws of written progress taken parts none =
     let run = log_is_run rules v.course.log laws (subst (λ (c : Course). ∥ IsLawful c ∥₁) of.planned of.lawful) in
     record {
@@ -202,8 +221,10 @@ worker_first rules v s stream laws of written progress taken parts none =
       kept = subst (λ (n : ℕ). Kept (run_at rules v) v.hart v n (parts_of s)) (sym taken) (subst (λ (z : Parts). Kept (run_at rules v) v.hart v 0 z) (sym parts)
           (kept_first (run_at rules v) run (known (course_of (run_at rules v).plan) run.lawful) v.hart v written progress));
       progress = progress;
-      begins = subst (λ (z : List Fed). take (length z) (feds_of v.hart v.course.log.lines) ≡ z) (sym none) (nothing (feds_of v.hart v.course.log.lines));
+      forgotten = omega arith;
+      follows = subst (λ (z : List Fed). take (length z) (stream_of v) ≡ z) (sym none) (nothing (stream_of v));
       inside = omega arith;
+      within = omega arith;
       few = omega (arith, taken);
       whole = λ e. absurd (let f : false ≡ true = e in cc);
     }

@@ -24,10 +24,12 @@ impl<L: Lifeguard> Worker<L> {
         ensures guard { IfOk result (λ worker. ⟦<Worker<L> as TurnWorker>⟧.guard worker ≡ guard) }
     {
         Ok(Worker {
+            alloc,
             guard,
             seat,
             state: State::new(alloc),
             told: 0,
+            before: 0,
             stream: Feds::new(alloc),
             fed: 0,
             ended: false,

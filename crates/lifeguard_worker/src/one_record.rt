@@ -81,7 +81,7 @@ impl<L: Lifeguard> Worker<L> {
             self.told = tell_all(monitor, &mut self.seat, self.guard, &mut self.state);
             return if self.ended { Turn::Done } else { Turn::Dry };
         }
-        let fed = self.stream.get(taken);
+        let fed = self.stream.get(taken - self.before);
         if let Some(short) = first_short(monitor, &mut self.seat, &fed.needs) {
             self.told = tell_all(monitor, &mut self.seat, self.guard, &mut self.state);
             return short.answer();

@@ -1,9 +1,12 @@
-//! The records that a worker is fed.
+//! The records that a worker is fed, and forgets.
 ghost use Rattle.std.specs.Prelude.{◌≡◌, ◌+◌, ◌≤◌, ◌++◌, List, OnOk, length, take};
 ghost use Rattle.pl_event.specs.declared.fed.Fed.{Fed};
 
+use crate::worker::Worker;
+use lifeguard::Lifeguard;
 use pl_event::{Fed, Feds};
 use std::alloc::AllocError;
+use turn_worker::TurnWorker;
 
 /// Adds the records that follow the first `from` ones of a stream, where they are not there yet.
 pub(crate) fn add_fed(stream: &mut Feds, from: usize, fed: &[Fed]) -> Result<(), AllocError>
@@ -24,4 +27,17 @@ pub(crate) fn add_fed(stream: &mut Feds, from: usize, fed: &[Fed]) -> Result<(),
         stream.push(fed[i])?;
     }
     Ok(())
+}
+
+impl<L: Lifeguard> Worker<L> {
+    /// Forgets the records that it has, once all that it was fed are taken. Others of them came in a list that was
+    /// refused, and will be fed again.
+    pub(crate) fn forget(&mut self)
+        ensures { let view = ⟦<Worker<L> as TurnWorker>⟧.view in view self.new ≡ view self.old }
+    {
+        if self.state.taken as usize == self.fed {
+            self.before = self.fed;
+            self.stream = Feds::new(self.alloc);
+        }
+    }
 }

@@ -20,7 +20,7 @@ impl<L: Lifeguard> TurnWorker for Worker<L> {
     ghost guard = { λ w. w.guard };
 
     ghost view = { λ w.
-        worker_view (L.rules w.guard) (table_of w.seat) (seat_view w.seat) w.state w.stream w.fed w.ended };
+        worker_view (L.rules w.guard) (table_of w.seat) (seat_view w.seat) w.state w.fed w.ended };
 
     fn hart(&self) -> u8 {
         self.seat.hart()
@@ -31,10 +31,11 @@ impl<L: Lifeguard> TurnWorker for Worker<L> {
     }
 
     fn feed(&mut self, fed: Vec<Fed>) -> Result<(), FeedRefused> {
-        let from = self.fed;
+        self.forget();
+        let from = self.fed - self.before;
         match add_fed(&mut self.stream, from, &fed) {
             Ok(()) => {
-                self.fed = from + fed.len();
+                self.fed += fed.len();
                 Ok(())
             }
             Err(_) => Err(FeedRefused { fed }),
@@ -70,10 +71,12 @@ impl<L: Lifeguard> TurnWorker for Worker<L> {
 
     fn end(self) -> (HartResult, GuardSeat) {
         let Worker {
+            alloc: _,
             guard: _,
             seat,
             state,
             told: _,
+            before: _,
             stream: _,
             fed: _,
             ended: _,
@@ -88,7 +91,7 @@ impl<L: Lifeguard> TurnWorker for Worker<L> {
         (result, seat)
     }
 
-    ghost sound = { λ w. is_sound (L.rules w.guard) w.seat w.state w.told w.stream w.fed w.ended w.is };
+    ghost sound = { λ w. is_sound (L.rules w.guard) w.seat w.state w.told w.before w.stream w.fed w.ended w.is };
 
     ghost follows = { λ w. refl };
 }

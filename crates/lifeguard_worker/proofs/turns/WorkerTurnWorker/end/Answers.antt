@@ -11,6 +11,7 @@ use Rattle.worker_laws.proofs.Ending.{all_checks, end_masks, end_reports}
 use Rattle.worker_records.specs.Places.{run_at}
 use Rattle.worker_records.specs.States.{parts_of}
 use Rattle.worker_records.proofs.RegisterLemmas.{there}
+use Rattle.lifeguard_worker.specs.Workers.{stream_of}
 use Rattle.lifeguard_worker.proofs.HeldLemmas.{nothing_held}
 use Rattle.lifeguard_worker.proofs.MoveLemmas.{is_kept}
 use Rattle.lifeguard_worker.proofs.turns.WorkerTurnWorker.end.Goals as goal
@@ -27,8 +28,8 @@ returns-clause-result g c =
     let rules = g.L.Lifeguard.rules w.guard in
     let v = seat_view w.seat in
     let p : Run = run_at rules v in
-    let run = (is_kept rules v w.state w.told w.stream w.fed w.ended (g.met.L.Lifeguard.lawful w.guard) w.is).run in
-    let all : w.state.taken ≡ length_of v.course v.hart = c.requires.used.all ∙ (length-take-le w.fed w.stream w.is.inside ∙ w.is.whole c.requires.ended) in
+    let run = (is_kept rules v w.state w.told w.before w.stream w.fed w.ended (g.met.L.Lifeguard.lawful w.guard) w.is).run in
+    let all : w.state.taken ≡ length_of v.course v.hart = c.requires.used.all ∙ (length-take-le w.fed (stream_of v) w.is.within ∙ w.is.whole c.requires.ended) in
     let kept : Kept p v.hart v (length_of v.course v.hart) (parts_of w.state) = subst (λ (n : ℕ). Kept p v.hart v n (parts_of w.state)) all w.is.kept in
     record {
       hart = c.hart.ensures.hart;

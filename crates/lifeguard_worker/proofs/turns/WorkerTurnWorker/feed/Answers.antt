@@ -1,47 +1,55 @@
-use Rattle.std.proofs.Common.{◌≡◌, ℕ, ◌+◌, ◌<◌, ◌≤◌, List, length, take, ◌++◌, sym, ap, subst, arith}
-use Rattle.std.proofs.lemmas.List.{length-take-le}
+use Rattle.std.proofs.Common.{◌≡◌, ℕ, ◌+◌, ◌-◌, ◌++◌, List, drop, length, take, sym, ap, subst, arith}
 use Rattle.pl_event.specs.declared.fed.Fed.{Fed}
-use Rattle.pl_event.specs.Feeds.{feds_of}
-use Rattle.order_core.specs.Course.{length_of}
 use Rattle.guard_table.specs.Seats.{seat_view}
-use Rattle.worker_records.specs.Places.{run_at}
-use Rattle.worker_records.proofs.CountLemmas.{size_small}
-use Rattle.lifeguard_worker.proofs.FedLemmas.{fed_inside, length_feds}
-use Rattle.lifeguard_worker.proofs.MoveLemmas.{is_kept}
+use Rattle.turn_worker.specs.Workers.{IsNextFed, WorkerView}
+use Rattle.lifeguard_worker.specs.Workers.{IsWorker, stream_of, table_of}
+use Rattle.lifeguard_worker.proofs.FeedingLemmas.{fed_small, next_kept, worker_fed, worker_grown}
 use Rattle.lifeguard_worker.proofs.turns.WorkerTurnWorker.feed.Goals as goal
+
+pub add_fed-requires-clause-next : goal.add_fed-requires-clause-next
+add_fed-requires-clause-next g c =
+    let w = c.forget.new.self in
+    let v = seat_view w.seat in
+    let items = c.args.fed.items in
+    let next = subst (λ (z : WorkerView). IsNextFed z items) (sym c.forget.ensures) c.requires in
+    let kept = next_kept (g.L.Lifeguard.rules w.guard) (table_of w.seat) v w.state w.told w.before w.stream w.fed w.ended w.is items next in (
+      drop w.before (stream_of v),
+      w.is.follows,
+      subst (λ (z : List Fed). take (w.fed - w.before + length z) (drop w.before (stream_of v)) ≡ take (w.fed - w.before) w.stream ++ z) (sym c.deref.ensures.value) kept,
+    )
 
 pub overflow_add-self : goal.overflow_add-self
 overflow_add-self g c =
-    let w = c.args.self.now in
-    let rules = g.L.Lifeguard.rules w.guard in
-    let v = seat_view w.seat in
-    let whole = feds_of v.hart v.course.log.lines in
-    let run = (is_kept rules v w.state w.told w.stream w.fed w.ended (g.met.L.Lifeguard.lawful w.guard) w.is).run in
-    let inside = fed_inside whole (take w.fed w.stream) c.args.fed.items c.requires in
-    let small : length_of v.course v.hart < 4294967295 = size_small (run_at rules v) run v.hart in
-    omega (arith, inside, length_feds v.course.log.lines v.hart, small, length-take-le w.fed w.stream w.is.inside, c.len.ensures, c.args.fed.ok.0)
+    let w = c.forget.new.self in
+    let next = subst (λ (z : WorkerView). IsNextFed z c.args.fed.items) (sym c.forget.ensures) c.requires in
+    let small = fed_small (g.L.Lifeguard.rules w.guard) (table_of w.seat) (seat_view w.seat) w.state w.told w.before w.stream w.fed w.ended w.is c.args.fed.items next (g.met.L.Lifeguard.lawful w.guard) in
+    omega (arith, small, c.len.ensures, c.args.fed.ok.0)
 
 pub invariant_of-self : goal.invariant_of-self
 invariant_of-self g c =
-    let w = c.args.self.now in
+    let w = c.forget.new.self in
     let v = seat_view w.seat in
-    let whole = feds_of v.hart v.course.log.lines in
+    let rules = g.L.Lifeguard.rules w.guard in
     let items = c.args.fed.items in
-    let inside = fed_inside whole (take w.fed w.stream) items c.requires in
-    let first : length (take w.fed w.stream) ≡ w.fed = length-take-le w.fed w.stream w.is.inside in
-    let next : take (w.fed + length items) whole ≡ take w.fed w.stream ++ items = subst (λ (n : ℕ). take (n + length items) whole ≡ take w.fed w.stream ++ items) first c.requires in
-    let len : c.len.result ≡ length items = omega (arith, c.len.ensures, c.args.fed.ok.0) in
-    let has : w.fed + length c.deref.result.now ≤ length c.add_fed.new.stream = c.in-Ok.ensures.all in
+    let next = subst (λ (z : WorkerView). IsNextFed z items) (sym c.forget.ensures) c.requires in
+    let kept = next_kept rules (table_of w.seat) v w.state w.told w.before w.stream w.fed w.ended w.is items next in
+    let begins = c.add_fed.ensures.begins (drop w.before (stream_of v)) w.is.follows
+    (subst (λ (z : List Fed). take (w.fed - w.before + length z) (drop w.before (stream_of v)) ≡ take (w.fed - w.before) w.stream ++ z) (sym c.deref.ensures.value) kept) in
     let same = ap (λ (z : List Fed). length z) c.deref.ensures.value in
-    let size = length_feds v.course.log.lines v.hart in
+    let len : length items ≡ c.len.result = omega (arith, c.len.ensures, c.args.fed.ok.0) in
     record {
-      is = record {
-        run = w.is.run;
-        kept = w.is.kept;
-        progress = w.is.progress;
-        begins = c.add_fed.ensures.begins whole w.is.begins (subst (λ (z : List Fed). take (w.fed + length z) whole ≡ take w.fed w.stream ++ z) (sym c.deref.ensures.value) next);
-        inside = omega (arith, has, same, len);
-        few = omega (arith, w.is.few);
-        whole = λ e. let all : w.fed ≡ length_of v.course v.hart = w.is.whole e in omega (arith, all, inside, size, first, len);
-      };
+      is = subst (λ (n : ℕ). IsWorker rules v w.state w.told w.before c.add_fed.new.stream (w.fed + n) w.ended) len
+          (worker_fed rules (table_of w.seat) v w.state w.told w.before w.stream w.fed w.ended w.is items next c.add_fed.new.stream begins (omega (arith, c.in-Ok.ensures.all, same)));
     }
+
+pub invariant_of-self-in-Err : goal.invariant_of-self-in-Err
+invariant_of-self-in-Err g c =
+    let w = c.forget.new.self in
+    let v = seat_view w.seat in
+    let rules = g.L.Lifeguard.rules w.guard in
+    let items = c.args.fed.items in
+    let next = subst (λ (z : WorkerView). IsNextFed z items) (sym c.forget.ensures) c.requires in
+    let kept = next_kept rules (table_of w.seat) v w.state w.told w.before w.stream w.fed w.ended w.is items next in
+    let begins = c.add_fed.ensures.begins (drop w.before (stream_of v)) w.is.follows
+    (subst (λ (z : List Fed). take (w.fed - w.before + length z) (drop w.before (stream_of v)) ≡ take (w.fed - w.before) w.stream ++ z) (sym c.deref.ensures.value) kept) in
+    record { is = worker_grown rules v w.state w.told w.before w.stream c.add_fed.new.stream w.fed w.ended w.is begins c.add_fed.ensures.more }

@@ -10,6 +10,6 @@ invariant_of-self g c =
     let w = c.args.self.now in
     let rules = g.L.Lifeguard.rules w.guard in
     record {
-      is = subst (λ (z : View). IsWorker rules z w.state w.told w.stream w.fed w.ended) (sym c.learn.ensures.view)
-          (worker_learnt rules (seat_view w.seat) w.state w.told w.stream w.fed w.ended (g.met.L.Lifeguard.lawful w.guard) w.is (note_view c.args.note));
+      is = subst (λ (z : View). IsWorker rules z w.state w.told w.before w.stream w.fed w.ended) (sym c.learn.ensures.view)
+          (worker_learnt rules (seat_view w.seat) w.state w.told w.before w.stream w.fed w.ended (g.met.L.Lifeguard.lawful w.guard) w.is (note_view c.args.note));
     }

@@ -2,6 +2,7 @@ use Rattle.std.proofs.Common.{List, length, sym, ap, ◌∙◌}
 use Rattle.std.proofs.lemmas.List.{length-take-le}
 use Rattle.pl_event.specs.declared.fed.Fed.{Fed}
 use Rattle.guard_table.specs.Seats.{seat_view}
+use Rattle.lifeguard_worker.specs.Workers.{stream_of}
 use Rattle.lifeguard_worker.proofs.FedLemmas.{length_feds}
 use Rattle.lifeguard_worker.proofs.turns.WorkerTurnWorker.no_more.Goals as goal
 
@@ -14,9 +15,11 @@ invariant_of-self g c =
         run = w.is.run;
         kept = w.is.kept;
         progress = w.is.progress;
-        begins = w.is.begins;
+        forgotten = w.is.forgotten;
+        follows = w.is.follows;
         inside = w.is.inside;
+        within = w.is.within;
         few = w.is.few;
-        whole = λ _. sym (length-take-le w.fed w.stream w.is.inside) ∙ (ap (λ (z : List Fed). length z) c.requires ∙ length_feds v.course.log.lines v.hart);
+        whole = λ _. sym (length-take-le w.fed (stream_of v) w.is.within) ∙ (ap (λ (z : List Fed). length z) c.requires ∙ length_feds v.course.log.lines v.hart);
       };
     }

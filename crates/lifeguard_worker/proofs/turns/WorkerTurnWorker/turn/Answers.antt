@@ -11,7 +11,7 @@ use Rattle.lifeguard_worker.proofs.turns.WorkerTurnWorker.turn.Goals as goal
 pub loop-init : goal.loop-init
 loop-init g c =
     let s = c.args.self.now in
-    let v : WorkerView = worker_view (g.L.Lifeguard.rules s.guard) (table_of s.seat) (seat_view s.seat) s.state s.stream s.fed s.ended in
+    let v : WorkerView = worker_view (g.L.Lifeguard.rules s.guard) (table_of s.seat) (seat_view s.seat) s.state s.fed s.ended in
     record { later = later_none v; taken = omega arith; steps = refl }
 
 pub turn_one-requires-clause-of : goal.turn_one-requires-clause-of
@@ -28,9 +28,9 @@ returns-in_default g c =
     let s = c.args.self.now in
     let m = c.loop.self in
     let e = c.turn_one.new.self in
-    let u : WorkerView = worker_view (g.L.Lifeguard.rules s.guard) (table_of s.seat) (seat_view s.seat) s.state s.stream s.fed s.ended in
-    let v : WorkerView = worker_view (g.L.Lifeguard.rules m.guard) (table_of m.seat) (seat_view m.seat) m.state m.stream m.fed m.ended in
-    let w : WorkerView = worker_view (g.L.Lifeguard.rules e.guard) (table_of e.seat) (seat_view e.seat) e.state e.stream e.fed e.ended in
+    let u : WorkerView = worker_view (g.L.Lifeguard.rules s.guard) (table_of s.seat) (seat_view s.seat) s.state s.fed s.ended in
+    let v : WorkerView = worker_view (g.L.Lifeguard.rules m.guard) (table_of m.seat) (seat_view m.seat) m.state m.fed m.ended in
+    let w : WorkerView = worker_view (g.L.Lifeguard.rules e.guard) (table_of e.seat) (seat_view e.seat) e.state e.fed e.ended in
     let lt : c.loop.counter < c.args.records = c.loop-test.true in
     record {
       later = later_less (c.loop.counter + 1) c.args.records u w (omega (arith, lt)) (later_more c.loop.counter 1 u v w c.loop.invariant.later c.turn_one.ensures.later);
@@ -43,9 +43,9 @@ loop-preserved g c =
     let s = c.args.self.now in
     let m = c.loop.self in
     let e = c.turn_one.new.self in
-    let u : WorkerView = worker_view (g.L.Lifeguard.rules s.guard) (table_of s.seat) (seat_view s.seat) s.state s.stream s.fed s.ended in
-    let v : WorkerView = worker_view (g.L.Lifeguard.rules m.guard) (table_of m.seat) (seat_view m.seat) m.state m.stream m.fed m.ended in
-    let w : WorkerView = worker_view (g.L.Lifeguard.rules e.guard) (table_of e.seat) (seat_view e.seat) e.state e.stream e.fed e.ended in
+    let u : WorkerView = worker_view (g.L.Lifeguard.rules s.guard) (table_of s.seat) (seat_view s.seat) s.state s.fed s.ended in
+    let v : WorkerView = worker_view (g.L.Lifeguard.rules m.guard) (table_of m.seat) (seat_view m.seat) m.state m.fed m.ended in
+    let w : WorkerView = worker_view (g.L.Lifeguard.rules e.guard) (table_of e.seat) (seat_view e.seat) e.state e.fed e.ended in
     let one : w.taken ≡ v.taken + 1 = subst (λ (a : Turn). IsAnswer 1 v w a) c.in-Moved.is c.turn_one.ensures.answer in
     record {
       later = later_more c.loop.counter 1 u v w c.loop.invariant.later c.turn_one.ensures.later;
@@ -57,8 +57,8 @@ pub returns-clause-later : goal.returns-clause-later
 returns-clause-later g c =
     let s = c.args.self.now in
     let m = c.loop.self in
-    let u : WorkerView = worker_view (g.L.Lifeguard.rules s.guard) (table_of s.seat) (seat_view s.seat) s.state s.stream s.fed s.ended in
-    let v : WorkerView = worker_view (g.L.Lifeguard.rules m.guard) (table_of m.seat) (seat_view m.seat) m.state m.stream m.fed m.ended in
+    let u : WorkerView = worker_view (g.L.Lifeguard.rules s.guard) (table_of s.seat) (seat_view s.seat) s.state s.fed s.ended in
+    let v : WorkerView = worker_view (g.L.Lifeguard.rules m.guard) (table_of m.seat) (seat_view m.seat) m.state m.fed m.ended in
     later_less c.loop.counter c.args.records u v c.loop.auto.counter-end c.loop.invariant.later
 
 pub returns-clause-answer : goal.returns-clause-answer

@@ -6,7 +6,7 @@ use Rattle.lifeguard_worker.proofs.turns.WorkerTurnWorker.turn.Given as goal
 
 abbrev pub invariant-loop : goal.invariant-loop
 invariant-loop g l =
-    let view = λ (w : _). worker_view (g.L.Lifeguard.rules w.guard) (table_of w.seat) (seat_view w.seat) w.state w.stream w.fed w.ended in
+    let view = λ (w : _). worker_view (g.L.Lifeguard.rules w.guard) (table_of w.seat) (seat_view w.seat) w.state w.fed w.ended in
     record {
       later : IsLaterBy l.counter (view l.initial.self) (view l.self);
       taken : l.self.state.taken ≡ l.initial.self.state.taken + l.counter;

@@ -13,20 +13,20 @@ use Rattle.lifeguard_worker.proofs.worker.Worker.turn_one.Goals as goal
 pub tell_all-self-requires-clause-kept : goal.tell_all-self-requires-clause-kept
 tell_all-self-requires-clause-kept g c =
     let w = c.args.self.now in
-    is_kept (g.L.Lifeguard.rules w.guard) (seat_view w.seat) w.state w.told w.stream w.fed w.ended (g.met.L.Lifeguard.lawful w.guard) w.is
+    is_kept (g.L.Lifeguard.rules w.guard) (seat_view w.seat) w.state w.told w.before w.stream w.fed w.ended (g.met.L.Lifeguard.lawful w.guard) w.is
 
 pub first_short-requires-clause-needs : goal.first_short-requires-clause-needs
 first_short-requires-clause-needs g c =
     let w = c.args.self.now in
     let v = seat_view w.seat in
     let ne : w.state.taken ≡ w.fed → ⊥ = c.if-taken-self.false in
-    let t = next_fed (g.L.Lifeguard.rules w.guard) v w.stream w.state.taken w.is.begins (omega (arith, ne, w.is.few, w.is.inside)) c.get-fed.result c.get-fed.ensures in
+    let t = next_fed (g.L.Lifeguard.rules w.guard) v w.state w.told w.before w.stream w.fed w.ended w.is (omega (arith, ne, w.is.few)) c.get-fed.result c.get-fed.ensures in
     (w.state.taken + 1, fed_needs v.course.log.lines v.hart t.0 (w.state.taken + 1) t.1 t.2 c.get-fed.result t.3)
 
 pub tell_all-self-requires-in-Some-clause-kept : goal.tell_all-self-requires-in-Some-clause-kept
 tell_all-self-requires-in-Some-clause-kept g c =
     let w = c.args.self.now in
-    looked_kept (g.L.Lifeguard.rules w.guard) (seat_view w.seat) (seat_view c.first_short.new.seat) w.state w.told w.stream w.fed w.ended (g.met.L.Lifeguard.lawful w.guard) w.is c.first_short.ensures.looked
+    looked_kept (g.L.Lifeguard.rules w.guard) (seat_view w.seat) (seat_view c.first_short.new.seat) w.state w.told w.before w.stream w.fed w.ended (g.met.L.Lifeguard.lawful w.guard) w.is c.first_short.ensures.looked
 
 pub returns-in-Some-clause-answer : goal.returns-in-Some-clause-answer
 returns-in-Some-clause-answer g c =
@@ -38,10 +38,10 @@ returns-in-Some-clause-answer g c =
     let t : State = c.tell_all-self-in-Some.new.state in
     let ne : w.state.taken ≡ w.fed → ⊥ = c.if-taken-self.false in
     let left : w.state.taken < w.fed = omega (arith, ne, w.is.few) in
-    let fed = next_fed rules v w.stream w.state.taken w.is.begins (omega (arith, left, w.is.inside)) c.get-fed.result c.get-fed.ensures in
+    let fed = next_fed rules v w.state w.told w.before w.stream w.fed w.ended w.is left c.get-fed.result c.get-fed.ensures in
     let needs : c.get-fed.result.needs ≡ needs_of v.course.log.lines v.hart (w.state.taken + 1) = fed_needs v.course.log.lines v.hart fed.0 (w.state.taken + 1) fed.1 fed.2 c.get-fed.result fed.3 in
-    subst (λ (a : Turn). IsAnswer 1 (worker_view rules (table_of w.seat) v w.state w.stream w.fed w.ended) (worker_view rules (table_of c.tell_all-self-in-Some.new.seat) v2 t w.stream w.fed w.ended) a) (sym c.answer.ensures)
-    (waits_then rules (table_of w.seat) (table_of c.tell_all-self-in-Some.new.seat) v v1 v2 w.state t w.told w.stream w.fed w.ended w.is left c.first_short.ensures.looked c.tell_all-self-in-Some.result c.tell_all-self-in-Some.ensures.told c.tell_all-self-in-Some.ensures.view
+    subst (λ (a : Turn). IsAnswer 1 (worker_view rules (table_of w.seat) v w.state w.fed w.ended) (worker_view rules (table_of c.tell_all-self-in-Some.new.seat) v2 t w.fed w.ended) a) (sym c.answer.ensures)
+    (waits_then rules (table_of w.seat) (table_of c.tell_all-self-in-Some.new.seat) v v1 v2 w.state t w.told w.before w.stream w.fed w.ended w.is left c.first_short.ensures.looked c.tell_all-self-in-Some.result c.tell_all-self-in-Some.ensures.told c.tell_all-self-in-Some.ensures.view
     c.tell_all-self-in-Some.ensures.kept (ap (λ (z : State). z.taken) c.tell_all-self-in-Some.ensures.others) c.get-fed.result.needs needs c.in-Some.short c.in-Some.ensures.short)
 
 pub invariant_of-self-then-is_err : goal.invariant_of-self-then-is_err
@@ -53,15 +53,15 @@ invariant_of-self-then-is_err g c =
     let t : State = c.make_room.new.self in
     let same = ap (λ (z : State). z.taken) c.make_room.ensures.others in
     record {
-      is = worker_then rules v v1 w.state t w.told w.told w.stream w.fed w.ended w.is (moves_looked v v1 c.first_short.ensures.looked)
-          (room_kept rules v v1 w.state t w.told w.stream w.fed w.ended (g.met.L.Lifeguard.lawful w.guard) w.is c.first_short.ensures.looked c.make_room.ensures.others c.make_room.ensures.items)
-          (ap (λ (z : View). z.progress) c.first_short.ensures.looked.same ∙ w.is.progress) (omega (arith, same, w.is.few));
+      is = worker_then rules v v1 w.state t w.told w.told w.before w.stream w.fed w.ended w.is (moves_looked v v1 c.first_short.ensures.looked)
+          (room_kept rules v v1 w.state t w.told w.before w.stream w.fed w.ended (g.met.L.Lifeguard.lawful w.guard) w.is c.first_short.ensures.looked c.make_room.ensures.others c.make_room.ensures.items)
+          (ap (λ (z : View). z.progress) c.first_short.ensures.looked.same ∙ w.is.progress) (omega (arith, same)) (omega (arith, same, w.is.few));
     }
 
 pub keep_up-self-requires-clause-kept : goal.keep_up-self-requires-clause-kept
 keep_up-self-requires-clause-kept g c =
     let w = c.args.self.now in
-    room_kept (g.L.Lifeguard.rules w.guard) (seat_view w.seat) (seat_view c.first_short.new.seat) w.state c.make_room.new.self w.told w.stream w.fed w.ended (g.met.L.Lifeguard.lawful w.guard) w.is c.first_short.ensures.looked c.make_room.ensures.others c.make_room.ensures.items
+    room_kept (g.L.Lifeguard.rules w.guard) (seat_view w.seat) (seat_view c.first_short.new.seat) w.state c.make_room.new.self w.told w.before w.stream w.fed w.ended (g.met.L.Lifeguard.lawful w.guard) w.is c.first_short.ensures.looked c.make_room.ensures.others c.make_room.ensures.items
 
 pub take_record-requires-clause-ready : goal.take_record-requires-clause-ready
 take_record-requires-clause-ready g c =
@@ -71,9 +71,9 @@ take_record-requires-clause-ready g c =
     let v1 : View = seat_view c.first_short.new.seat in
     let ne : w.state.taken ≡ w.fed → ⊥ = c.if-taken-self.false in
     let left : w.state.taken < w.fed = omega (arith, ne, w.is.few) in
-    let fed = next_fed rules v w.stream w.state.taken w.is.begins (omega (arith, left, w.is.inside)) c.get-fed.result c.get-fed.ensures in
+    let fed = next_fed rules v w.state w.told w.before w.stream w.fed w.ended w.is left c.get-fed.result c.get-fed.ensures in
     let needs : c.get-fed.result.needs ≡ needs_of v.course.log.lines v.hart (w.state.taken + 1) = fed_needs v.course.log.lines v.hart fed.0 (w.state.taken + 1) fed.1 fed.2 c.get-fed.result fed.3 in
-    ready_then rules (table_of w.seat) (table_of c.keep_up-self.new.seat) v v1 (seat_view c.keep_up-self.new.seat) w.state c.keep_up-self.new.state w.told w.stream w.fed w.ended w.is left c.first_short.ensures.looked c.keep_up-self.result c.keep_up-self.ensures.view c.keep_up-self.ensures.kept
+    ready_then rules (table_of w.seat) (table_of c.keep_up-self.new.seat) v v1 (seat_view c.keep_up-self.new.seat) w.state c.keep_up-self.new.state w.told w.before w.stream w.fed w.ended w.is left c.first_short.ensures.looked c.keep_up-self.result c.keep_up-self.ensures.view c.keep_up-self.ensures.kept
     (ap (λ (z : State). z.taken) c.keep_up-self.ensures.others ∙ ap (λ (z : State). z.taken) c.make_room.ensures.others) (let near = c.keep_up-self.ensures.near in let same = ap (λ (z : State). z.taken) c.make_room.ensures.others in omega (arith, near, same))
     c.get-fed.result.needs needs (c.first_short.ensures.seen c.in_default.is)
 
@@ -87,4 +87,4 @@ take_record-requires-clause-fed g c =
     let moves : Moves v v2 = moves_then v v1 v2 (moves_looked v v1 c.first_short.ensures.looked)
     (moves_told v1 v2 c.keep_up-self.result c.keep_up-self.ensures.view (let rises = c.keep_up-self.ensures.rises in let same = ap (λ (z : View). z.progress) c.first_short.ensures.looked.same in omega (arith, rises, same, w.is.progress))) in
     fed_then v v2 w.state.taken c.keep_up-self.new.state.taken c.get-fed.result moves (ap (λ (z : State). z.taken) c.keep_up-self.ensures.others ∙ ap (λ (z : State). z.taken) c.make_room.ensures.others)
-    (next_fed (g.L.Lifeguard.rules w.guard) v w.stream w.state.taken w.is.begins (omega (arith, ne, w.is.few, w.is.inside)) c.get-fed.result c.get-fed.ensures)
+    (next_fed (g.L.Lifeguard.rules w.guard) v w.state w.told w.before w.stream w.fed w.ended w.is (omega (arith, ne, w.is.few)) c.get-fed.result c.get-fed.ensures)

@@ -23,7 +23,7 @@ use Rattle.lifeguard_crew.specs.inner.Rows.{SomeOf, Passes}
 use Rattle.lifeguard_crew.proofs.Same.{at_place}
 use Rattle.lifeguard_crew.proofs.RowSteps.{past}
 
-get_at : {A : Type 0} (xs : List A) (k : ℕ) (x d : A) → get_elem? xs k ≡ some x → get_or xs k d ≡ x
+pub get_at : {A : Type 0} (xs : List A) (k : ℕ) (x d : A) → get_elem? xs k ≡ some x → get_or xs k d ≡ x
 get_at [] k x d e = absurd (some-ne-none x (sym e))
 get_at (y ∷ ys) zero x d e = some-injective y x e
 get_at (y ∷ ys) (suc k) x d e = get_at ys k x d e

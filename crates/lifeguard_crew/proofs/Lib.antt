@@ -6,6 +6,9 @@ pub mod Teams
 pub mod SlotLemmas
 pub mod Finish
 pub mod Same
-pub mod Pairs
 pub mod Heard
 pub mod Advances
+pub mod Led
+pub mod ReaderSteps
+pub mod Fills
+pub mod Drained

@@ -18,7 +18,8 @@ use Rattle.lifeguard.specs.Ranges.{reports_on}
 use Rattle.turn_worker.specs.declared.worker.HartResult.{HartResult}
 use Rattle.turn_worker.specs.Workers.{WorkerView, IsSound, IsOfTable, size}
 use Rattle.turn_worker.specs.Turns.{IsLaterBy, HasEnded}
-use Rattle.turn_worker.specs.Results.{IsResult, final_state, checks_of}
+use Rattle.lifeguard.specs.Plain.{final_state}
+use Rattle.turn_worker.specs.Results.{IsResult, checks_of}
 use Rattle.lifeguard_crew.specs.declared.finished.Finished.{Finished}
 use Rattle.lifeguard_crew.specs.Drivers.{IsReady, IsReadyCrew, IsSeatAtEnd, IsFinished}
 use Rattle.lifeguard_crew.specs.inner.Rounds.{lasting, AreSame, HaveFound}
@@ -27,11 +28,6 @@ pub at_place : {A : Type 0} (xs : List A) (i : ℕ) → i < length xs → (x : A
 at_place [] i lt = absurd (omega arith)
 at_place (x ∷ xs) zero lt = (x, refl)
 at_place (x ∷ xs) (suc i) lt = at_place xs i (omega arith)
-
-pub at_get : {A : Type 0} (xs : List A) (i : ℕ) (d : A) → i < length xs → get_elem? xs i ≡ some (get_or xs i d)
-at_get [] i d lt = absurd (omega arith)
-at_get (x ∷ xs) zero d lt = refl
-at_get (x ∷ xs) (suc i) d lt = at_get xs i d (omega arith)
 
 pub of_map : {A B : Type 0} (f : A → B) (xs : List A) (i : ℕ) (y : B) → get_elem? (map f xs) i ≡ some y
     → (x : A) × (get_elem? xs i ≡ some x) × (f x ≡ y)
@@ -51,8 +47,8 @@ later_same n v w later =
 pub result_same : (v w : WorkerView) (r : HartResult) → lasting w ≡ lasting v → IsResult w r → IsResult v r
 result_same v w r e is = record {
   hart = is.hart ∙ ap (λ (z : WorkerView). z.seat.hart) e;
-  reports = is.reports ∙ ap (λ (z : WorkerView). reports_on z.seat.hart (final_state z).reports) e;
-  masks = λ register lt. is.masks register lt ∙ ap (λ (z : WorkerView). (final_state z).masks z.seat.hart register) e;
+  reports = is.reports ∙ ap (λ (z : WorkerView). reports_on z.seat.hart (final_state z.rules z.seat.course.log).reports) e;
+  masks = λ register lt. is.masks register lt ∙ ap (λ (z : WorkerView). (final_state z.rules z.seat.course.log).masks z.seat.hart register) e;
   checks = is.checks ∙ ap (λ (z : WorkerView). checks_of z.rules z.seat.hart z.seat.course.log.lines) e;
   misses = is.misses ∙ ap (λ (z : WorkerView). z.misses (size z)) e;
 }

@@ -18,17 +18,40 @@ use Rattle.lifeguard_crew.specs.declared.slot.Slot.TheVariants.{Idle, Works}
 use Rattle.lifeguard_crew.specs.declared.slot.Slot.TheVariants as slot
 use Rattle.lifeguard_crew.specs.Drivers.{IsReady, IsSeatAtEnd}
 use Rattle.lifeguard_crew.specs.inner.Rounds.{lasting, both}
-use Rattle.lifeguard_crew.specs.inner.Slots.{slot_at, IsAtRest, MayTurn, AllMayTurn, KeepsSlot, KeepsRow}
+use Rattle.lifeguard_crew.specs.inner.Slots.{slot_at, AreKept, IsAtRest, IsEndOf, IsKept, KeepsSlot}
 use Rattle.lifeguard_crew.proofs.RowSteps.{any_default}
 use Rattle.lifeguard_crew.proofs.Same.{result_same, ready_same, seat_at_end}
 
-module _ {P W : Type 0} (planned : P → Planned) (view : W → WorkerView) (m : Monitor P) where
-  pub keeps_self : (s : Slot W) → KeepsSlot planned view m s s
+module _ {W : Type 0} (May : Slot W → Type 0) (Fit : WorkerView → Slot W → Type 0) where
+  pub keeps_self : (s : Slot W) → IsKept May Fit s s
   keeps_self s = ((λ a. a), (λ v f. f), (λ a. a))
 
-  pub keeps_then : (a b c : Slot W) → KeepsSlot planned view m a b → KeepsSlot planned view m b c → KeepsSlot planned view m a c
+  pub keeps_then : (a b c : Slot W) → IsKept May Fit a b → IsKept May Fit b c → IsKept May Fit a c
   keeps_then a b c p q = ((λ x. q.0 (p.0 x)), (λ v f. q.1 v (p.1 v f)), (λ x. q.2 (p.2 x)))
 
+  pub rows_then : (a b c : List (Slot W)) → AreKept May Fit a b → AreKept May Fit b c → AreKept May Fit a c
+  rows_then a b c p q h = keeps_then (slot_at a h) (slot_at b h) (slot_at c h) (p h) (q h)
+
+  keeps_set : (old row : List (Slot W)) (h : ℕ) (s : Slot W) → h < length row → AreKept May Fit old row
+      → IsKept May Fit (slot_at row h) s → AreKept May Fit old (set row h s)
+  keeps_set old row h s low kept step k = dite (ℕ_discrete k h)
+      (λ here.
+      let is : slot_at (set row h s) k ≡ s = ap (λ (j : ℕ). slot_at (set row h s) j) here ∙ get_or-set_same row h s Idle low in
+      let all : IsKept May Fit (slot_at old h) s = keeps_then (slot_at old h) (slot_at row h) s (kept h) step in
+      subst (IsKept May Fit (slot_at old k)) (sym is) (subst (λ (j : ℕ). IsKept May Fit (slot_at old j) s) (sym here) all))
+      (λ other. subst (IsKept May Fit (slot_at old k)) (sym (get_or-set_other row h k s Idle other)) (kept k))
+
+  -- one slot more has had its turn
+  pub keeps_more : (old row : List (Slot W)) (h : ℕ) (d s : Slot W) → h < length row → AreKept May Fit old row
+      → IsKept May Fit (get_or row h d) s → AreKept May Fit old (set row h s)
+  keeps_more old row h d s low kept step = keeps_set old row h s low kept
+      (subst (λ (z : Slot W). IsKept May Fit z s) (any_default row h d Idle low) step)
+
+  pub may_at : (old row : List (Slot W)) (h : ℕ) (d : Slot W) → h < length row → ((k : ℕ) → May (slot_at old k)) → AreKept May Fit old row
+      → May (get_or row h d)
+  may_at old row h d low may kept = subst May (sym (any_default row h d Idle low)) ((kept h).0 (may h))
+
+module _ {P W : Type 0} (planned : P → Planned) (view : W → WorkerView) (m : Monitor P) where
   pub keeps_worker : (w u : W) (n k : ℕ) → lasting (view u) ≡ lasting (view w) → KeepsSlot planned view m (Works w n) (Works u k)
   keeps_worker w u n k e = (ready_same planned m (view w) (view u) e, (λ v f. e ∙ f), (λ a. a))
 
@@ -44,27 +67,11 @@ module _ {P W : Type 0} (planned : P → Planned) (view : W → WorkerView) (m :
     (λ a. a),
   )
 
-  pub rows_then : (a b c : List (Slot W)) → KeepsRow planned view m a b → KeepsRow planned view m b c → KeepsRow planned view m a c
-  rows_then a b c p q h = keeps_then (slot_at a h) (slot_at b h) (slot_at c h) (p h) (q h)
-
-  keeps_set : (old row : List (Slot W)) (h : ℕ) (s : Slot W) → h < length row → KeepsRow planned view m old row
-      → KeepsSlot planned view m (slot_at row h) s → KeepsRow planned view m old (set row h s)
-  keeps_set old row h s low kept step k = dite (ℕ_discrete k h)
-      (λ here.
-      let is : slot_at (set row h s) k ≡ s = ap (λ (j : ℕ). slot_at (set row h s) j) here ∙ get_or-set_same row h s Idle low in
-      let all : KeepsSlot planned view m (slot_at old h) s = keeps_then (slot_at old h) (slot_at row h) s (kept h) step in
-      subst (KeepsSlot planned view m (slot_at old k)) (sym is) (subst (λ (j : ℕ). KeepsSlot planned view m (slot_at old j) s) (sym here) all))
-      (λ other. subst (KeepsSlot planned view m (slot_at old k)) (sym (get_or-set_other row h k s Idle other)) (kept k))
-
-  -- one slot more has had its turn
-  pub keeps_more : (old row : List (Slot W)) (h : ℕ) (d s : Slot W) → h < length row → KeepsRow planned view m old row
-      → KeepsSlot planned view m (get_or row h d) s → KeepsRow planned view m old (set row h s)
-  keeps_more old row h d s low kept step = keeps_set old row h s low kept
-      (subst (λ (z : Slot W). KeepsSlot planned view m z s) (any_default row h d Idle low) step)
-
-  pub may_at : (old row : List (Slot W)) (h : ℕ) (d : Slot W) → h < length row → AllMayTurn planned view m old → KeepsRow planned view m old row
-      → MayTurn planned view m (get_or row h d)
-  may_at old row h d low may kept = subst (MayTurn planned view m) (sym (any_default row h d Idle low)) ((kept h).0 (may h))
+  pub keeps_end : (w u : W) (n k : ℕ) (new : Slot W) → IsSound (view u) → lasting (view u) ≡ lasting (view w) → IsReady planned m (view w)
+      → HasEnded (view u) → IsEndOf view (Works u k) new → KeepsSlot planned view m (Works w n) new
+  keeps_end w u n k Idle sound e ready end is = absurd is
+  keeps_end w u n k (Works _ _) sound e ready end is = absurd is
+  keeps_end w u n k (slot.Ended r s) sound e ready end is = keeps_ended w u n r s sound e ready end is.0 (is.1, is.2)
 
 both_ended : (a b : RoundEnd) → both a b ≡ Ended → (a ≡ Ended) × (b ≡ Ended)
 both_ended Moved b e = absurd (cc)

@@ -1,7 +1,9 @@
 -- Which workers a driver may run, and what it finds.
-use Rattle.std.specs.Prelude.{◌≡◌, ℕ, true, List, length}
+use Rattle.std.specs.Prelude.{◌≡◌, ℕ, true, [], List, length}
 use mathlib.Core.Option.{some}
 use lib.ListN.{get_elem?}
+use Rattle.pl_event.specs.declared.fed.Fed.{Fed}
+use Rattle.pl_event.specs.Feeds.{feds}
 use Rattle.order_core.specs.Course.{Planned, course, length_of}
 use Rattle.guard_table.specs.declared.seats.GuardSeat.{GuardSeat}
 use Rattle.guard_table.specs.declared.seats.Monitor.{Monitor}
@@ -23,6 +25,22 @@ pub record IsReadyCrew {P W : Type 0} (planned : P → Planned) (view : W → Wo
     : Type 0 where
   pub crew : IsCrew view (course planned (plan_of m)) ws
   pub ready : (k : ℕ) (w : W) → get_elem? ws k ≡ some w → IsReady planned m (view w)
+
+-- the worker's seat is of this monitor, it performs the operations of its plan, and it was fed nothing
+pub record IsFresh {P : Type 0} (planned : P → Planned) (m : Monitor P) (v : WorkerView) : Type 0 where
+  pub at : IsAt planned m v
+  pub plan : planned (plan_of m) ≡ v.plan
+  pub fed : v.fed ≡ []
+
+-- a worker for each hart of the run, by number, none of which was fed anything
+pub record IsFreshCrew {P W : Type 0} (planned : P → Planned) (view : W → WorkerView) (m : Monitor P) (ws : List W)
+    : Type 0 where
+  pub crew : IsCrew view (course planned (plan_of m)) ws
+  pub fresh : (k : ℕ) (w : W) → get_elem? ws k ≡ some w → IsFresh planned m (view w)
+
+-- all lines of the run that the monitor's plan is of, in executed order
+abbrev pub lines_of : {P : Type 0} → (P → Planned) → Monitor P → List Fed
+lines_of planned m = feds (planned (plan_of m)).log.lines
 
 -- the seat of a hart, of this monitor, whose progress word is the length of its hart's stream
 pub record IsSeatAtEnd {P : Type 0} (planned : P → Planned) (m : Monitor P) (h : ℕ) (s : GuardSeat) : Type 0 where

@@ -9,7 +9,7 @@ pub(crate) enum RoundEnd {
     Moved,
     /// No worker did, and one waits for another.
     Waited,
-    /// All workers have taken all records.
+    /// All workers have taken all records; where they have rings, all that there were.
     Ended,
 }
 

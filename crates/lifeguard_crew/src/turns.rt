@@ -2,7 +2,8 @@
 ghost use Rattle.std.specs.Prelude.{◌≡◌, ◌<◌, ◌≤◌, IfOk, IsTrue, length};
 ghost use Rattle.pl_base.specs.declared.layout.TheConstants.{MAX_HARTS};
 ghost use Rattle.lifeguard_crew.specs.declared.round_end.RoundEnd.TheVariants.{Ended};
-ghost use Rattle.lifeguard_crew.specs.inner.Slots.{IsAtRest, AreAtRest, MayTurn, AllMayTurn, KeepsSlot, KeepsRow};
+ghost use Rattle.lifeguard_crew.specs.inner.Slots.{AllMayTurn, AreAtRest, HasEndedIn, IsAtRest};
+ghost use Rattle.lifeguard_crew.specs.inner.Slots.{IsEndOf, KeepsRow, KeepsSlot, MayTurn};
 
 use crate::round_end::RoundEnd;
 use crate::slot::Slot;
@@ -19,6 +20,20 @@ use turn_worker::{Turn, TurnWorker};
 /// How many rounds in which all workers of a thread wait pass before the thread yields.
 const SPINS: u32 = 64;
 
+// Puts what the worker of a slot has found in its place, which has taken its whole stream.
+fn end_slot<W: TurnWorker>(slot: &mut Slot<W>)
+    requires { HasEndedIn W.view slot.old }
+    ensures { IsEndOf W.view slot.old slot.new }
+{
+    match mem::replace(slot, Slot::Idle) {
+        Slot::Works { worker, .. } => {
+            let (result, seat) = worker.end();
+            *slot = Slot::Ended { result, seat };
+        }
+        other => *slot = other,
+    }
+}
+
 // Turns the worker of a slot by one record, after it passed the gate.
 fn turn_slot<P: Plan, W: TurnWorker, G: Gate, L: Ledger>(
     monitor: &Monitor<P>,
@@ -31,31 +46,23 @@ fn turn_slot<P: Plan, W: TurnWorker, G: Gate, L: Ledger>(
     ensures keeps { IfOk result (λ _. KeepsSlot P.planned W.view monitor.now slot.old slot.new) }
     ensures rests { IfOk result (λ end. end ≡ Ended → IsAtRest slot.new) }
 {
-    match mem::replace(slot, Slot::Idle) {
-        Slot::Works { mut worker, number } => {
-            gate.pass(hart, number);
+    match slot {
+        Slot::Works { worker, number } => {
+            gate.pass(hart, *number);
             match worker.turn(monitor, 1, steps) {
                 Turn::Done => {
-                    let (result, seat) = worker.end();
-                    *slot = Slot::Ended { result, seat };
+                    end_slot(slot);
                     Ok(RoundEnd::Ended)
                 }
                 Turn::NoMemory => Err(NoMemory),
                 Turn::Moved => {
-                    let number = number.saturating_add(1);
-                    *slot = Slot::Works { worker, number };
+                    *number = number.saturating_add(1);
                     Ok(RoundEnd::Moved)
                 }
-                Turn::Waiting { .. } | Turn::Dry => {
-                    *slot = Slot::Works { worker, number };
-                    Ok(RoundEnd::Waited)
-                }
+                Turn::Waiting { .. } | Turn::Dry => Ok(RoundEnd::Waited),
             }
         }
-        other => {
-            *slot = other;
-            Ok(RoundEnd::Ended)
-        }
+        Slot::Idle | Slot::Ended { .. } => Ok(RoundEnd::Ended),
     }
 }
 
@@ -79,7 +86,7 @@ fn turn_all<P: Plan, W: TurnWorker, G: Gate, L: Ledger>(
 }
 
 // Spins a few times, then yields. How often it has waited in a row.
-fn wait_shortly(waits: u32) -> u32 {
+pub(crate) fn wait_shortly(waits: u32) -> u32 {
     if waits < SPINS {
         hint::spin_loop();
         waits + 1

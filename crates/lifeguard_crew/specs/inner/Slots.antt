@@ -2,7 +2,9 @@
 use Rattle.std.specs.Prelude.{◌≡◌, ◌⊎◌, ℕ, List, slice_index_or}
 use Rattle.order_core.specs.Course.{Planned}
 use Rattle.guard_table.specs.declared.seats.Monitor.{Monitor}
-use Rattle.turn_worker.specs.Workers.{WorkerView}
+use Rattle.guard_table.specs.Seats.{seat_view}
+use Rattle.turn_worker.specs.Workers.{WorkerView, IsOfTable}
+use Rattle.turn_worker.specs.Turns.{HasEnded}
 use Rattle.turn_worker.specs.Results.{IsResult}
 use Rattle.lifeguard_crew.specs.declared.slot.Slot.{Slot}
 use Rattle.lifeguard_crew.specs.declared.slot.Slot.TheVariants.{Idle, Works, Ended}
@@ -48,6 +50,28 @@ module _ {W : Type 0} where
   abbrev pub IsSplit : Slot W → Slot W → Slot W → Type 0
   IsSplit old own theirs = ((own ≡ old) × (theirs ≡ Idle)) ⊎ ((own ≡ Idle) × (theirs ≡ old))
 
+-- where May says what a slot must have for a turn, and Fit v that it has what was v at the start
+module _ {W : Type 0} (May : Slot W → Type 0) (Fit : WorkerView → Slot W → Type 0) where
+  -- the slot has what it had, or what came of it
+  abbrev pub IsKept : Slot W → Slot W → Type 0
+  IsKept old new = (May old → May new) × ((v : WorkerView) → Fit v old → Fit v new) × (IsManned old → IsManned new)
+
+  abbrev pub AreKept : List (Slot W) → List (Slot W) → Type 0
+  AreKept old new = (h : ℕ) → IsKept (slot_at old h) (slot_at new h)
+
+module _ {W : Type 0} (view : W → WorkerView) where
+  -- the worker in the slot has taken its whole stream
+  abbrev pub HasEndedIn : Slot W → Type 0
+  HasEndedIn Idle = Unit {0}
+  HasEndedIn (Works w n) = HasEnded (view w)
+  HasEndedIn (Ended r s) = Unit {0}
+
+  -- in the place of a worker is what it found, and its seat
+  abbrev pub IsEndOf : Slot W → Slot W → Type 0
+  IsEndOf (Works w n) (Ended r s) = IsResult (view w) r × (seat_view s ≡ (view w).seat) × IsOfTable (view w).table s
+  IsEndOf (Works w n) new = ⊥
+  IsEndOf old new = new ≡ old
+
 module _ {P W : Type 0} (planned : P → Planned) (view : W → WorkerView) (m : Monitor P) where
   -- a worker in the slot may be turned
   abbrev pub MayTurn : Slot W → Type 0
@@ -66,8 +90,7 @@ module _ {P W : Type 0} (planned : P → Planned) (view : W → WorkerView) (m :
 
   -- the slot has the worker that it had, or what it found
   abbrev pub KeepsSlot : Slot W → Slot W → Type 0
-  KeepsSlot old new = (MayTurn old → MayTurn new) × ((v : WorkerView) → Fits v old → Fits v new)
-      × (IsManned old → IsManned new)
+  KeepsSlot old new = IsKept MayTurn Fits old new
 
   abbrev pub KeepsRow : List (Slot W) → List (Slot W) → Type 0
-  KeepsRow old new = (h : ℕ) → KeepsSlot (slot_at old h) (slot_at new h)
+  KeepsRow old new = AreKept MayTurn Fits old new

@@ -10,7 +10,7 @@ use Rattle.turn_worker.specs.declared.worker.HartResult.{HartResult}
 use Rattle.turn_worker.specs.Workers.{IsOfTable}
 use Rattle.turn_worker.specs.Results.{IsResult}
 use Rattle.lifeguard_crew.proofs.Same.{of_map}
-use Rattle.lifeguard_crew.proofs.Pairs.{at_here, pairs_more, map_self}
+use Rattle.ring_feed.proofs.Pairs.{at_here, pairs_more, map_self}
 use Rattle.lifeguard_crew.proofs.one_thread.end_all.Goals as goal
 
 pub end-result-requires : goal.end-result-requires

@@ -3,7 +3,7 @@ use mathlib.Core.Option.{some}
 use lib.ListN.{get_elem?}
 use Rattle.atomic_table.proofs.Lists.{at_set}
 use Rattle.guard_table.specs.Seats.{note_view}
-use Rattle.lifeguard_crew.proofs.Same.{at_get}
+use Rattle.ring_feed.proofs.Pairs.{at_get}
 use Rattle.lifeguard_crew.proofs.Heard.{told_one}
 use Rattle.lifeguard_crew.proofs.one_thread.learn_from.Goals as goal
 

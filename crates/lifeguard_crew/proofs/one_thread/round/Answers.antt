@@ -3,7 +3,8 @@ use Rattle.atomic_table.proofs.Lists.{at_map}
 use Rattle.turn_worker.specs.Workers.{WorkerView}
 use Rattle.lifeguard_crew.specs.declared.round_end.RoundEnd.{RoundEnd}
 use Rattle.lifeguard_crew.specs.inner.Rounds.{IsRound, both}
-use Rattle.lifeguard_crew.proofs.Same.{at_get, still_ready}
+use Rattle.lifeguard_crew.proofs.Same.{still_ready}
+use Rattle.ring_feed.proofs.Pairs.{at_get}
 use Rattle.lifeguard_crew.proofs.Heard.{map_set}
 use Rattle.lifeguard_crew.proofs.Rounds.{one_more}
 use Rattle.lifeguard_crew.proofs.one_thread.round.Goals as goal

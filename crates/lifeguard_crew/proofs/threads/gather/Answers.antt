@@ -2,6 +2,7 @@ use Rattle.std.proofs.Common.{rules, ◌≡◌, ℕ, List, [], ◌∷◌, ◌++�
 use Rattle.std.proofs.lemmas.List.{map_push}
 use Rattle.guard_table.specs.declared.seats.Monitor.{Monitor}
 use Rattle.lifeguard_crew.specs.declared.slot.Slot.{Slot}
+use Rattle.lifeguard_crew.specs.inner.Slots.{Fits, MayTurn}
 use Rattle.lifeguard_crew.specs.inner.Rows.{Each, HasRow, IsBack, Passes}
 use Rattle.lifeguard_crew.proofs.Teams.{each_init, pass_then, pass_kept, pass_joined, pass_first, nil_of}
 use Rattle.lifeguard_crew.proofs.threads.gather.Goals as goal
@@ -26,11 +27,13 @@ loop-thread-preserved g c =
     let rows : List (List (Slot g.row.W.Denot)) = map (λ x. x.promise.row.value.items) left in
     let listed = ap (map (λ x. x.promise.row.value.items)) items ∙ map_push (λ x. x.promise.row.value.items) left t in
     let last : Passes planned view m before (own ∷ (rows ++ took ∷ [])) = subst (λ z. Passes planned view m before (own ∷ z)) listed old.passes in
-    let first = pass_then planned view m before (own ∷ (rows ++ took ∷ [])) (took ∷ own ∷ rows) last (pass_first planned view m own took rows) in
-    let kept = pass_then planned view m before (took ∷ own ∷ rows) (gave ∷ own ∷ rows) first (pass_kept planned view m took gave (own ∷ rows) back.1) in
+    let may = MayTurn planned view m in
+    let fit = Fits planned view m in
+    let first = pass_then may fit before (own ∷ (rows ++ took ∷ [])) (took ∷ own ∷ rows) last (pass_first may fit own took rows) in
+    let kept = pass_then may fit before (took ∷ own ∷ rows) (gave ∷ own ∷ rows) first (pass_kept may fit took gave (own ∷ rows) back.1) in
     record {
       threads = subst (λ (n : ℕ). Each (λ x. HasRow m n x.promise.monitor.value x.promise.row.value.items) left) (sym c.put_back.auto.own) all.0;
-      passes = pass_then planned view m before (gave ∷ own ∷ rows) (new ∷ rows) kept (pass_joined planned view m own gave new rows c.put_back.ensures);
+      passes = pass_then may fit before (gave ∷ own ∷ rows) (new ∷ rows) kept (pass_joined may fit own gave new rows c.put_back.ensures);
     }
 
 pub returns : goal.returns

@@ -1,6 +1,7 @@
 use Rattle.std.proofs.Common.{rules, ◌≡◌, List, [], ◌∷◌, ◌++◌, length, map, sym, ap, ◌∙◌, subst}
 use Rattle.std.proofs.lemmas.List.{map_push}
 use Rattle.lifeguard_crew.specs.declared.slot.Slot.{Slot}
+use Rattle.lifeguard_crew.specs.inner.Slots.{Fits, MayTurn}
 use Rattle.lifeguard_crew.specs.inner.Rows.{Each, IsBack, Passes}
 use Rattle.lifeguard_crew.proofs.Teams.{each_snoc, pass_then, pass_kept, pass_joined, pass_last}
 use Rattle.lifeguard_crew.proofs.threads.give.Goals as goal
@@ -21,16 +22,20 @@ returns-in-Ok-clause-passes g c on =
     let own : List (Slot g.row.W.Denot) = c.args.row.now in
     let theirs : List (Slot g.row.W.Denot) = c.args.theirs.items in
     let items : c.push_reserved.new.self.items ≡ c.args.threads.now.items ++ t ∷ [] = search rules in
+    let may = MayTurn planned view m in
+    let fit = Fits planned view m in
     let rows : List (List (Slot g.row.W.Denot)) = map (λ x. x.promise.row.value.items) c.args.threads.now.items in
     let listed = ap (map (λ x. x.promise.row.value.items)) items ∙ map_push (λ x. x.promise.row.value.items) c.args.threads.now.items t
     ∙ ap (λ (z : List (Slot g.row.W.Denot)). rows ++ z ∷ []) c.in-Ok.ensures.ok.1 in
-    subst (λ z. Passes planned view m (theirs ∷ own ∷ rows) (own ∷ z)) (sym listed) (pass_last planned view m theirs own rows)
+    subst (λ z. Passes planned view m (theirs ∷ own ∷ rows) (own ∷ z)) (sym listed) (pass_last may fit theirs own rows)
 
 pub returns-in-Err-Some-clause-passes : goal.returns-in-Err-Some-clause-passes
 returns-in-Err-Some-clause-passes g c on =
     let planned = g.P.Plan.planned in
     let view = g.W.TurnWorker.view in
     let m = c.args.monitor.now in
+    let may = MayTurn planned view m in
+    let fit = Fits planned view m in
     let own : List (Slot g.row.W.Denot) = c.args.row.now in
     let theirs : List (Slot g.row.W.Denot) = c.args.theirs.items in
     let gave : List (Slot g.row.W.Denot) = c.in-Err-Some.theirs.items in
@@ -38,6 +43,6 @@ returns-in-Err-Some-clause-passes g c on =
     let rows : List (List (Slot g.row.W.Denot)) = map (λ x. x.promise.row.value.items) c.args.threads.now.items in
     let items : c.reserve.new.self.items ≡ c.args.threads.now.items = c.reserve.ensures.items in
     let back : IsBack planned view m theirs gave = rw c.in-Err-Some.field-0-is at c.in-Err-Some.ensures.err in
-    let joined = pass_then planned view m (theirs ∷ own ∷ rows) (gave ∷ own ∷ rows) (new ∷ rows)
-    (pass_kept planned view m theirs gave (own ∷ rows) back.1) (pass_joined planned view m own gave new rows c.put_back.ensures) in
+    let joined = pass_then may fit (theirs ∷ own ∷ rows) (gave ∷ own ∷ rows) (new ∷ rows)
+    (pass_kept may fit theirs gave (own ∷ rows) back.1) (pass_joined may fit own gave new rows c.put_back.ensures) in
     subst (λ z. Passes planned view m (theirs ∷ own ∷ rows) (new ∷ map (λ x. x.promise.row.value.items) z)) (sym items) joined

@@ -2,7 +2,7 @@ use Rattle.std.proofs.Common.{◌≡◌, List, length, sym, ap, ◌∙◌, subst
 use Rattle.lifeguard_crew.specs.declared.slot.Slot.{Slot}
 use Rattle.lifeguard_crew.specs.inner.Slots.{KeepsRow}
 use Rattle.lifeguard_crew.specs.inner.Rows.{IsBack}
-use Rattle.lifeguard_crew.proofs.Pairs.{written_back}
+use Rattle.ring_feed.proofs.Pairs.{written_back}
 use Rattle.lifeguard_crew.proofs.threads.shift.Goals as goal
 
 pub returns-then-run_row : goal.returns-then-run_row

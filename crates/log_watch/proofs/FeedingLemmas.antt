@@ -13,7 +13,8 @@ use Rattle.pl_event.specs.Feeds.{fed_at, feds_from, feds_of}
 use Rattle.pl_event.specs.Numbers.{hart_of, is_of}
 use Rattle.pl_event.proofs.Before.{told_own, told_other}
 use Rattle.turn_worker.specs.Workers.{WorkerView, stream_of}
-use Rattle.lifeguard_crew.proofs.Same.{at_get, of_map}
+use Rattle.lifeguard_crew.proofs.Same.{of_map}
+use Rattle.ring_feed.proofs.Pairs.{at_get}
 use Rattle.log_watch.specs.Feeding.{AreEmpty, AreFedUpTo, AreUnfed, Begins, IsFedBy, IsPushed, MayPush}
 
 module _ {F : Type 0} (view : F → WorkerView) (piece : F → List Fed) (lines : List Line) (starts : List WorkerView) (at : ℕ) (fs : List F)

@@ -22,7 +22,8 @@ use Rattle.worker_laws.specs.Folds.{misses_at}
 use Rattle.worker_laws.specs.LogRuns.{log_run}
 use Rattle.log_watch.specs.Crews.{AreFirst, AreUnder, table_id_of}
 use Rattle.log_watch.specs.Feeding.{AreFedWhole}
-use Rattle.log_watch.specs.Watched.{IsOfHart, final_state, misses_of}
+use Rattle.lifeguard.specs.Plain.{final_state}
+use Rattle.log_watch.specs.Watched.{IsOfHart, misses_of}
 use Rattle.log_watch.proofs.FeedingLemmas.{place_low}
 
 -- a worker that was fed the whole stream of its hart

@@ -4,11 +4,9 @@ use mathlib.Core.Option.{some}
 use lib.ListN.{get_elem?}
 use Rattle.pl_base.specs.declared.layout.TheConstants.{REGISTERS}
 use Rattle.pl_event.specs.declared.log.Log.{Log}
-use Rattle.pl_event.specs.Numbers.{events_of}
 use Rattle.lifeguard.specs.Rules.{Rules}
-use Rattle.lifeguard.specs.Plain.{plain_result}
+use Rattle.lifeguard.specs.Plain.{final_state}
 use Rattle.lifeguard.specs.Ranges.{reports_on}
-use Rattle.lifeguard.specs.State.{State}
 use Rattle.order_core.specs.Course.{course_of, length_of}
 use Rattle.shadow_frames.specs.declared.words.TheConstants.{TABLE_WORDS}
 use Rattle.shadow_frames.specs.Words.{WordsRepresent}
@@ -18,10 +16,6 @@ use Rattle.turn_worker.specs.Results.{checks_of}
 use Rattle.worker_laws.specs.Folds.{misses_at}
 use Rattle.worker_laws.specs.LogRuns.{log_run}
 use Rattle.log_watch.specs.declared.watched.Watched.{Watched}
-
--- what the plain rules give over all events of a log
-abbrev pub final_state : Rules → Log → State
-final_state rules log = plain_result rules log.pages (events_of log.lines)
 
 -- how many of a hart's checks miss in the filter
 abbrev pub misses_of : Rules → Log → ℕ → ℕ

@@ -31,7 +31,7 @@ fn words_are_wide(words: &[u64])
 {}
 
 /// The words of the table after the run, whose seats are all at the end of their harts' streams.
-pub(crate) fn last_words<P: Plan + Drop>(
+pub fn last_words<P: Plan + Drop>(
     alloc: Global,
     monitor: Monitor<P>,
     mut head: Head,

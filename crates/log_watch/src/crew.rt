@@ -37,7 +37,7 @@ fn worker<P: Plan, L: Lifeguard>(
 }
 
 /// A worker for each hart of the run, by number, each of which was fed nothing. No seat was made before.
-pub(crate) fn first_crew<P: Plan, L: Lifeguard>(
+pub fn first_crew<P: Plan, L: Lifeguard>(
     alloc: Global,
     monitor: &Monitor<P>,
     head: &mut Head,

@@ -9,8 +9,12 @@ mod closing;
 mod crew;
 mod feeding;
 mod lines;
+mod threaded;
 mod watch;
 mod watched;
 
+pub use closing::last_words;
+pub use crew::first_crew;
+pub use threaded::watch_on_threads;
 pub use watch::watch_log;
 pub use watched::Watched;

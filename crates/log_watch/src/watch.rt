@@ -44,8 +44,8 @@ fn opening_words<L: Lifeguard>(
     Ok(words)
 }
 
-// The table of a log's plan, and its first seat.
-fn opened<'a, L: Lifeguard>(
+/// The table of a log's plan, and its first seat.
+pub(crate) fn opened<'a, L: Lifeguard>(
     alloc: Global,
     guard: L,
     log: &'a OrderedLog,
@@ -63,8 +63,8 @@ fn opened<'a, L: Lifeguard>(
     Ok(opened)
 }
 
-// The workers of a log, each fed its whole stream.
-fn crew_of<'a, L: Lifeguard>(
+/// The workers of a log, each fed its whole stream.
+pub(crate) fn crew_of<'a, L: Lifeguard>(
     alloc: Global,
     guard: L,
     log: &OrderedLog,

@@ -11,7 +11,7 @@ use Rattle.order_core.specs.Course.{course, length_of}
 use Rattle.guard_table.specs.declared.view.View.{View}
 use Rattle.guard_table.specs.Seats.{head_view, plan_of}
 use Rattle.lifeguard_crew.specs.Drivers.{IsSeatAtEnd}
-use Rattle.lifeguard_crew.proofs.Pairs.{at_here, map_self}
+use Rattle.ring_feed.proofs.Pairs.{at_here, map_self}
 use Rattle.log_watch.proofs.closing.give_back_all.Goals as goal
 
 -- a number is one of a list with one more at its front

@@ -15,7 +15,7 @@ worker-requires-clause-once g c contains = absurd (let l : c.loop-hart.hart < c.
 
 pub loop-hart-preserved : goal.loop-hart-preserved
 loop-hart-preserved g c =
-    let view : Worker g.row.L.Denot g.L.Lifeguard → WorkerView = λ w. worker_view (g.L.Lifeguard.rules w.guard) (table_of w.seat) (seat_view w.seat) w.state w.stream w.fed w.ended in
+    let view : Worker g.row.L.Denot g.L.Lifeguard → WorkerView = λ w. worker_view (g.L.Lifeguard.rules w.guard) (table_of w.seat) (seat_view w.seat) w.state w.fed w.ended in
     record {
       of = c.worker.ensures.of;
       made = λ x contains. made_below (head_view c.loop-hart.head).made c.loop-hart.hart c.loop-hart.invariant.made x (subst (λ (v : View). Contains v.made x) c.worker.ensures.head contains);

@@ -12,6 +12,6 @@ abbrev pub invariant-loop-hart : goal.invariant-loop-hart
 invariant-loop-hart g l = record {
   of : IsHeadOf g.P.Plan.planned l.monitor l.head;
   made : (x : ℕ) → Contains (head_view l.head).made x → x < l.hart;
-  workers : AreFirstUpTo (λ w. worker_view (g.L.Lifeguard.rules w.guard) (table_of w.seat) (seat_view w.seat) w.state w.stream w.fed w.ended) (g.L.Lifeguard.rules l.guard)
+  workers : AreFirstUpTo (λ w. worker_view (g.L.Lifeguard.rules w.guard) (table_of w.seat) (seat_view w.seat) w.state w.fed w.ended) (g.L.Lifeguard.rules l.guard)
       (table_id_of l.monitor) (course g.P.Plan.planned (plan_of l.monitor)) l.workers.items l.hart;
 }

@@ -5,7 +5,7 @@ use Rattle.std.proofs.lemmas.List.{map-append}
 use mathlib.Core.Option.{some, some-injective, some-ne-none}
 use lib.ListN.{get_elem?}
 use Rattle.pl_event.specs.declared.fed.Fed.{Fed}
-use Rattle.lifeguard_crew.proofs.Pairs.{map_self}
+use Rattle.ring_feed.proofs.Pairs.{map_self}
 use Rattle.log_watch.specs.Feeding.{AreEmpty}
 use Rattle.log_watch.proofs.lines.begun.Goals as goal
 

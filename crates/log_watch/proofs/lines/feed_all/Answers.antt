@@ -2,7 +2,7 @@ use Rattle.std.proofs.Common.{rules, ◌≡◌, List, length, map, sym, ap, ◌�
 use Rattle.std.proofs.lemmas.List.{length-map}
 use Rattle.atomic_table.proofs.Lists.{at_map}
 use Rattle.turn_worker.specs.Workers.{WorkerView}
-use Rattle.lifeguard_crew.proofs.Pairs.{written_back}
+use Rattle.ring_feed.proofs.Pairs.{written_back}
 use Rattle.log_watch.specs.Feeding.{AreFedUpTo}
 use Rattle.log_watch.specs.declared.feeding.Feeding.{Feeding}
 use Rattle.log_watch.proofs.FeedingLemmas.{first_fed}

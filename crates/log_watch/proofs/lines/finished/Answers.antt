@@ -10,7 +10,7 @@ use Rattle.pl_event.specs.declared.log.Line.{Line}
 use Rattle.pl_event.specs.Feeds.{feds_from, feds_of}
 use Rattle.pl_event.specs.Numbers.{is_of}
 use Rattle.turn_worker.specs.Workers.{WorkerView, stream_of}
-use Rattle.lifeguard_crew.proofs.Pairs.{at_here, map_self, pairs_more}
+use Rattle.ring_feed.proofs.Pairs.{at_here, map_self, pairs_more}
 use Rattle.lifeguard_crew.proofs.Same.{at_place}
 use Rattle.log_watch.specs.Feeding.{AreFedUpTo, IsFedBy, IsFedWhole}
 use Rattle.log_watch.proofs.FeedingLemmas.{place_low}

@@ -1,7 +1,7 @@
 use Rattle.std.proofs.Common.{◌≡◌, get_or, refl, sym, ◌∙◌, subst}
 use mathlib.Core.Option.{some, some-injective}
 use lib.ListN.{get_elem?}
-use Rattle.lifeguard_crew.proofs.Same.{at_get}
+use Rattle.ring_feed.proofs.Pairs.{at_get}
 use Rattle.log_watch.specs.Feeding.{IsFedBy}
 use Rattle.log_watch.proofs.lines.push_to.Goals as goal
 

@@ -36,17 +36,17 @@ feed_all-requires-clause-size g c = c.in_ok-first.ensures.workers.harts ∙ (ap 
 
 pub feed_all-requires-clause-unfed : goal.feed_all-requires-clause-unfed
 feed_all-requires-clause-unfed g c =
-    let view : Worker g.row.L.Denot g.L.Lifeguard → WorkerView = λ w. worker_view (g.L.Lifeguard.rules w.guard) (table_of w.seat) (seat_view w.seat) w.state w.stream w.fed w.ended in
+    let view : Worker g.row.L.Denot g.L.Lifeguard → WorkerView = λ w. worker_view (g.L.Lifeguard.rules w.guard) (table_of w.seat) (seat_view w.seat) w.state w.fed w.ended in
     subst (λ (z : Log). AreUnfed view z.lines c.in_ok-first.first.items) (sym c.log.ensures)
     (unfed view (g.L.Lifeguard.rules c.args.guard) (table_id_of c.args.monitor.now) c.args.log.now.log c.in_ok-first.first.items
     (subst (λ (p : Planned). AreFirst view (g.L.Lifeguard.rules c.args.guard) (table_id_of c.args.monitor.now) (course_of p) c.in_ok-first.first.items) c.requires.plan c.in_ok-first.ensures.workers))
 
 pub returns-clause-ready : goal.returns-clause-ready
 returns-clause-ready g c =
-    let view : Worker g.row.L.Denot g.L.Lifeguard → WorkerView = λ w. worker_view (g.L.Lifeguard.rules w.guard) (table_of w.seat) (seat_view w.seat) w.state w.stream w.fed w.ended in
+    let view : Worker g.row.L.Denot g.L.Lifeguard → WorkerView = λ w. worker_view (g.L.Lifeguard.rules w.guard) (table_of w.seat) (seat_view w.seat) w.state w.fed w.ended in
     crew_ready view (λ plan. plan_under (g.L.Lifeguard.rules plan.guard) plan.log.now.log) c.args.monitor.now (g.L.Lifeguard.rules c.args.guard) c.args.log.now.log c.requires.plan c.in_ok-first.first.items c.in_ok-workers.workers.items c.in_ok-first.ensures.workers c.in_ok-workers.ensures
 
 pub returns-clause-rules : goal.returns-clause-rules
 returns-clause-rules g c =
-    let view : Worker g.row.L.Denot g.L.Lifeguard → WorkerView = λ w. worker_view (g.L.Lifeguard.rules w.guard) (table_of w.seat) (seat_view w.seat) w.state w.stream w.fed w.ended in
+    let view : Worker g.row.L.Denot g.L.Lifeguard → WorkerView = λ w. worker_view (g.L.Lifeguard.rules w.guard) (table_of w.seat) (seat_view w.seat) w.state w.fed w.ended in
     crew_under view (λ plan. plan_under (g.L.Lifeguard.rules plan.guard) plan.log.now.log) c.args.monitor.now (g.L.Lifeguard.rules c.args.guard) c.args.log.now.log c.requires.plan c.in_ok-first.first.items c.in_ok-workers.workers.items c.in_ok-first.ensures.workers c.in_ok-workers.ensures

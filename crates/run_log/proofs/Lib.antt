@@ -1,0 +1,5 @@
+pub mod Clocks
+pub mod Sharing
+pub mod Keeping
+pub mod Existing
+pub mod Picking

@@ -1,0 +1,8 @@
+use Rattle.run_watch.proofs.watch.watch_run.Goals as goal
+
+pub closed-requires-clause-ended : goal.closed-requires-clause-ended
+closed-requires-clause-ended g c = record {
+  workers = c.in_ok-monitor.field-0.workers.items;
+  firsts = c.in_ok-monitor.ensures.firsts;
+  finished = c.in_ok-finished.ensures;
+}

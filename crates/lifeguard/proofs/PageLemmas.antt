@@ -22,7 +22,7 @@ pub bytes_in-page : (pages : List (List ℕ)) (a : ℕ) → bytes_in pages a ≡
 unfolding bytes_in
 bytes_in-page pages a = refl
 
--- and so are those behind it on the page
+-- and so are those after it on the page
 pub bytes_in-behind : (pages : List (List ℕ)) (a i : ℕ) → a % 4096 + i < 4096 → bytes_in pages (a + i) ≡ bytes_of (page_of pages (a / 4096)) (a % 4096 + i)
 bytes_in-behind pages a i within =
     let same : (a + i) / 4096 ≡ a / 4096 = omega arith in
@@ -198,7 +198,7 @@ room_more pages page number new from inside long room = λ k at below.
       | inr ne ↦ rw (get_or-set_other pages number k new [] ne) (room k at (omega arith))
     ]
 
--- the pages behind one keep their cells
+-- the pages after one keep their cells
 pub room_rest : (pages : List (List ℕ)) (number end : ℕ) (new : List ℕ) → HasRoom number (end - number) pages → HasRoom (number + 1) (end - (number + 1)) (set pages number new)
 room_rest pages number end new room = λ k at below.
     elim (cases_eq k number) [
@@ -225,7 +225,7 @@ page_replaced value pages number new was inside is = fun_ext (λ a.
           ]
     ])
 
--- and one more behind those before it
+-- and one more after those before it
 pub pages_more : (value : Option ℕ) (pages : List (List ℕ)) (page number : ℕ) (new : List ℕ) (old was : Bytes) → page ≤ number → number < length pages
     → bytes_in pages ≡ written (λ i o. value) (page * 4096) ((number - page) * 4096) old → bytes_of new ≡ replaced value 0 4096 was
     → bytes_in (set pages number new) ≡ written (λ i o. value) (page * 4096) ((number + 1 - page) * 4096) old

@@ -17,7 +17,7 @@ use Rattle.lifeguard.specs.declared.shadow.Shadow.{Shadow}
 use Rattle.lifeguard.specs.declared.report.Report.{Report}
 use Rattle.lifeguard.specs.declared.report.EventPlace.{EventPlace}
 
--- a store changes no mask: the bytes that an event changes may be read off the masks behind it
+-- a store changes no mask: the bytes that an event changes may be read off the masks after it
 pub bytes_after-masks_after : (rules : Rules) (hart : ℕ) (kind : Kind) (bytes : Bytes) (masks : Masks) → bytes_after rules hart kind bytes (masks_after rules hart kind bytes masks) ≡ bytes_after rules hart kind bytes masks
 bytes_after-masks_after rules hart (Ld width rd rb addr) bytes masks = refl
 bytes_after-masks_after rules hart (St width rv rb addr) bytes masks = refl

@@ -8,8 +8,9 @@ use Rattle.pl_event.specs.declared.event.Event.{Event}
 use Rattle.pl_event.specs.declared.event.Kind.{Kind}
 use Rattle.pl_event.specs.declared.event.Kind.TheVariants.{Ld, St, Op, Mv, Im, Br, Jr, Al, Fr, Bf, Mp, Um, Rd, Wr, Ex, Ft}
 use Rattle.pl_event.specs.declared.log.PageKind.TheVariants.{Data}
+use Rattle.pl_event.specs.declared.log.Log.{Log}
 use Rattle.pl_event.specs.declared.log.PageRun.{PageRun}
-use Rattle.pl_event.specs.Numbers.{events_on}
+use Rattle.pl_event.specs.Numbers.{events_of, events_on}
 use Rattle.lifeguard.specs.declared.guard.Name.{Name}
 use Rattle.lifeguard.specs.declared.guard.Name.TheVariants as name
 use Rattle.lifeguard.specs.declared.guard.RangeKind.TheVariants as range
@@ -169,12 +170,12 @@ rule rules at kind state = record {
   reports = state.reports ++ reports_of rules at kind state;
 }
 
--- where an event stands behind those before it
+-- the place of an event after those before it
 abbrev pub place_after : List Event → Event → EventPlace
 place_after before event =
     record { place = length before + 1; hart = event.hart; number = events_on event.hart before + 1 }
 
--- further events, behind those before them
+-- further events, after those before them
 abbrev pub plain_from : Rules → List Event → State → List Event → State
 plain_from rules before state [] = state
 plain_from rules before state (event ∷ events) =
@@ -183,3 +184,7 @@ plain_from rules before state (event ∷ events) =
 -- the plain result of a run: all events one by one, from the pages of its start
 abbrev pub plain_result : Rules → List PageRun → List Event → State
 plain_result rules pages events = plain_from rules [] (first_state rules pages) events
+
+-- what the plain rules give over all events of a log, one by one in executed order
+abbrev pub final_state : Rules → Log → State
+final_state rules log = plain_result rules log.pages (events_of log.lines)

@@ -36,7 +36,7 @@ state_of shadow = state_from shadow.pages.items shadow.masks shadow.reports.item
 abbrev pub place_of : Shadow → ℕ
 place_of shadow = shadow.place
 
--- where the next event of a hart stands
+-- where the next event of a hart is
 abbrev pub next_place : Shadow → ℕ → EventPlace
 next_place shadow hart = record { place = shadow.place + 1; hart = hart; number = slice_index shadow.counts hart + 1 }
 

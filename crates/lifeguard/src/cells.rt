@@ -121,7 +121,7 @@ fn ranged_cell<L: Lifeguard>(guard: L, kind: RangeKind, cell: u8) -> u8
     }
 }
 
-/// Changes the nibbles of a range that is taken, given back or read from outside.
+/// Changes the nibbles of a range that is taken, freed or read from outside.
 pub fn change_range<L: Lifeguard>(guard: L, kind: RangeKind, cells: &mut [u8], addr: u32, len: u32)
     requires inside { addr + len ≤ length cells.old }
     requires below { addr + len < 2 ^ 32 }

@@ -38,7 +38,7 @@ impl Name {
 pub enum RangeKind {
     /// A block is taken.
     Al,
-    /// A block is given back.
+    /// A block is freed.
     Fr,
     /// Bytes come from outside.
     Rd,
@@ -74,7 +74,7 @@ pub trait Lifeguard: Copy {
         requires { old < 8 }
         ensures { result ≡ (rules self.now).store_nibble old bit };
 
-    /// The nibble of a byte of a range that is taken, given back or read from outside.
+    /// The nibble of a byte of a range that is taken, freed or read from outside.
     fn range_state(&self, kind: RangeKind, old: u8) -> u8
         requires { old < 8 }
         ensures { result ≡ (rules self.now).range_state kind old };

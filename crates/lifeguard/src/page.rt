@@ -61,7 +61,7 @@ impl Page {
         Ok(())
     }
 
-    /// Changes the nibbles of a range that is taken, given back or read from outside.
+    /// Changes the nibbles of a range that is taken, freed or read from outside.
     pub fn change<L: Lifeguard>(&mut self, guard: L, kind: RangeKind, at: u32, len: u32)
         requires inside { at + len ≤ PAGE_BYTES }
         ensures { bytes_of self.new

@@ -138,7 +138,7 @@ fn change_on_page<L: Lifeguard>(guard: L, kind: RangeKind, pages: &mut [Page], a
     pages[number].change(guard, kind, addr % PAGE_BYTES, len);
 }
 
-/// Changes the nibbles of a range that is taken, given back or read from outside.
+/// Changes the nibbles of a range that is taken, freed or read from outside.
 pub fn change_range_in<L: Lifeguard>(
     guard: L,
     kind: RangeKind,

@@ -29,7 +29,7 @@ any_longer : (a : ℕ) (run longer : ByteRun) (runs : List ByteRun) → (LiesIn 
 any_longer a run longer runs more (zero, x, below, at, holds) = any_first (LiesIn a) longer runs (more (subst (LiesIn a) (sym at) holds))
 any_longer a run longer runs more (suc k, x, below, at, holds) = any_behind (LiesIn a) longer runs (k, x, omega arith, at, holds)
 
--- a longest run stays one with a byte more in front that has another nibble or does not touch it
+-- a longest run stays one with a byte more before it that has another nibble or does not touch it
 earlier : (bytes : Bytes) (low high : ℕ) (run : ByteRun) → (run.first ≡ low + 1 → nibble_at bytes low ≢ run.nibble) → IsLongestRun bytes (low + 1) high run → IsLongestRun bytes low high run
 earlier bytes low high run other h = record {
   from = omega (arith, h.from);
@@ -44,7 +44,7 @@ earlier bytes low high run other h = record {
   after = h.after;
 }
 
--- those behind a run do not touch the byte in front of it
+-- those after a run do not touch the byte before it
 earlier_behind : (bytes : Bytes) (low high : ℕ) (run : ByteRun) (runs : List ByteRun) → AreLongestRuns bytes (low + 1) high (run ∷ runs) → All (IsLongestRun bytes low high) runs
 earlier_behind bytes low high run runs h k d below =
     let head : IsLongestRun bytes (low + 1) high run = All-head (IsLongestRun bytes (low + 1) high) run runs h.each in
@@ -66,7 +66,7 @@ first_holds bytes low high run runs h (suc k, x, below, at, lies) =
 from_behind : (bytes : Bytes) (low high : ℕ) (runs : List ByteRun) → AreLongestRuns bytes (low + 1) high runs → All (λ later. low < later.first) runs
 from_behind bytes low high runs h k d below = let longest : IsLongestRun bytes (low + 1) high (get_or runs k d) = h.each k d below in omega (arith, longest.from)
 
--- each byte from low on is the first or one behind
+-- each byte from low on is the first or one after it
 whole_from : (low high : ℕ) (P : ℕ → Type 0) → P low → ((a : ℕ) → low + 1 ≤ a → a < high → P a) → (a : ℕ) → low ≤ a → a < high → P a
 whole_from low high P first behind a from below = elim (eq-or-lt_of_le from) [
   | inl is ↦ subst P is first
@@ -90,7 +90,7 @@ is_longest bytes low high last nibble order within shown is same after = record 
   after = after;
 }
 
--- a run with the first byte and all those behind it
+-- a run with the first byte and all those after it
 longest_front : (bytes : Bytes) (low high last n : ℕ) (runs : List ByteRun) → IsLongestRun bytes low high (record { first = low; last = last; nibble = suc n }) → All (IsLongestRun bytes low high) runs
     → All (λ later. last < later.first) runs → AllPairs Rises runs
     → ((a : ℕ) → low + 1 ≤ a → a < high → nibble_at bytes a ≢ 0 → Any (LiesIn a) (record { first = low; last = last; nibble = suc n } ∷ runs))
@@ -105,7 +105,7 @@ longest_front bytes low high last n runs first behind later rising whole = recor
 some_not_zero : (n m : ℕ) → m ≡ suc n → m ≢ 0
 some_not_zero n m is clear = omega arith
 
--- no run behind
+-- no run after
 longest_alone : (bytes : Bytes) (low high n : ℕ) → low < high → nibble_at bytes low ≡ suc n → AreLongestRuns bytes (low + 1) high [] → AreLongestRuns bytes low high (record { first = low; last = low; nibble = suc n } ∷ [])
 longest_alone bytes low high n below is h =
     longest_front bytes low high low n []
@@ -114,7 +114,7 @@ longest_alone bytes low high n below is h =
     (All-nil _) (All-nil _) h.rising
     (λ a more within shown. any_behind (LiesIn a) _ [] (h.whole a more within shown))
 
--- the first run behind goes on with the byte
+-- the first run after goes on with the byte
 longest_joined : (bytes : Bytes) (low high n : ℕ) (run : ByteRun) (runs : List ByteRun) → low < high → nibble_at bytes low ≡ suc n → run.first ≡ low + 1 → run.nibble ≡ suc n
     → AreLongestRuns bytes (low + 1) high (run ∷ runs) → AreLongestRuns bytes low high (record { first = low; last = run.last; nibble = suc n } ∷ runs)
 longest_joined bytes low high n run runs below is touches alike h =
@@ -126,7 +126,7 @@ longest_joined bytes low high n run runs below is touches alike h =
     (earlier_behind bytes low high run runs h) (pairs_head run runs h.rising) (pairs_tail run runs h.rising)
     (λ a more within shown. any_longer a run _ runs (λ lies. record { from = omega (arith, more); upto = lies.upto }) (h.whole a more within shown))
 
--- the first run behind does not
+-- the first run after does not
 longest_apart : (bytes : Bytes) (low high n : ℕ) (run : ByteRun) (runs : List ByteRun) → low < high → nibble_at bytes low ≡ suc n → (run.first ≡ low + 1 → run.nibble ≢ suc n)
     → AreLongestRuns bytes (low + 1) high (run ∷ runs) → AreLongestRuns bytes low high (record { first = low; last = low; nibble = suc n } ∷ run ∷ runs)
 longest_apart bytes low high n run runs below is other h =

@@ -1,4 +1,4 @@
--- A run that is still open, in front of the runs of the bytes behind it.
+-- A run that is still open, before the runs of the bytes after it.
 use Rattle.std.proofs.Common.{◌≡◌, ℕ, zero, suc, ◌+◌, ◌-◌, ◌<◌, ◌≤◌, Bool, true, false, cond, eqb, ◌&&◌, List, [], ◌∷◌, ◌++◌, refl, sym, ap, ◌∙◌, arith, add-one, append_assoc}
 use Rattle.std.specs.Prelude.{if◌then◌else◌, ◌==◌}
 use Rattle.std.proofs.lemmas.Bool.{eq-eqb, ne_eqb}
@@ -34,21 +34,21 @@ unfolding runs_from
 runs_begin bytes a zero = tt
 runs_begin bytes a (suc count) = BeginsFrom-onto a (nibble_at bytes a) (runs_from bytes (suc a) count) (rw add-one (runs_begin bytes (suc a) count))
 
--- the next byte goes in front of the runs behind it
+-- the next byte goes before the runs after it
 pub runs_step : (bytes : Bytes) (a total : ℕ) → a < total → runs_from bytes a (total - a) ≡ onto_run a (nibble_at bytes a) (runs_from bytes (a + 1) (total - (a + 1)))
 unfolding runs_from
 runs_step bytes a total lt =
     let k : total - a ≡ suc (total - (a + 1)) = omega arith in
     rw (k, add-one) refl
 
--- no byte behind
+-- no byte after
 pub runs_none : (bytes : Bytes) (a total : ℕ) → total ≤ a → runs_from bytes a (total - a) ≡ []
 unfolding runs_from
 runs_none bytes a total le =
     let k : total - a ≡ 0 = omega arith in
     rw k refl
 
--- no run behind
+-- no run after
 pub open_none : (first at n : ℕ) → open_run first at n [] ≡ ended_run first at n
 open_none first at zero = refl
 open_none first at (suc n) = refl

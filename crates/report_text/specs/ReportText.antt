@@ -1,4 +1,4 @@
--- The text of a report: lines by place, masks and runs of bytes behind them.
+-- The text of a report: lines by place, masks and runs of bytes after them.
 use Rattle.std.specs.Prelude.{ℕ, false, ◌==◌, List, [], ◌∷◌, ◌++◌, length, codes, if◌then◌else◌}
 use Rattle.std.specs.List.{enumerate_from, flat_map}
 use Rattle.std.specs.Fmt.{decimal, digits}

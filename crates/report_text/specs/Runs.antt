@@ -4,7 +4,7 @@ use Rattle.pl_base.specs.declared.layout.TheConstants.{MEMORY_BYTES}
 use Rattle.lifeguard.specs.State.{Bytes, nibble_at}
 use Rattle.report_text.specs.declared.runs.ByteRun.{ByteRun}
 
--- a byte with this nibble in front of the runs of those behind it
+-- a byte with this nibble before the runs of those after it
 abbrev pub onto_run : ℕ → ℕ → List ByteRun → List ByteRun
 onto_run a zero runs = runs
 onto_run a (suc n) [] = record { first = a; last = a; nibble = suc n } ∷ []

@@ -1,0 +1,3 @@
+pub mod RowLemmas
+pub mod Spans
+pub mod Inside

@@ -1,0 +1,3 @@
+pub mod CountsText
+pub mod FoundText
+pub mod inner

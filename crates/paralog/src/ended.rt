@@ -7,13 +7,16 @@ ghost use Rattle.paralog_top.specs.Statuses.{status_code};
 ghost use Rattle.paralog.specs.Ended.{Ends, IsNotBegun};
 
 use paralog_top::Status;
-use pl_base::{NoMemory, Sink, Source, write_all_counted};
-use standard_top::standard_top;
+use pl_base::{NoMemory, OpenGate, Sink, Source, write_all_counted};
+use standard_top::standard_paralog;
 use std::alloc::Global;
 use std::process::ExitCode;
+use std::sync::Wait;
+use std::thread::Threads;
 
 /// What the words come to, where there was memory for them.
-pub fn status_of<S: Source, K: Sink, E: Sink>(
+pub fn status_of<R: Threads + Wait + Sync, S: Source, K: Sink, E: Sink>(
+    rt: &R,
     alloc: Global,
     words: Result<Vec<String>, NoMemory>,
     source: &mut S,
@@ -27,7 +30,7 @@ pub fn status_of<S: Source, K: Sink, E: Sink>(
         (λ _. IsNotBegun input output noted result) }
 {
     match words {
-        Ok(words) => match standard_top(alloc, &words, source, out, notes) {
+        Ok(words) => match standard_paralog(rt, alloc, &words, source, out, notes, &OpenGate) {
             Ok(status) => status,
             Err(NoMemory) => without_memory(notes),
         },

@@ -15,6 +15,6 @@ fn main(rt: HostRuntime) -> ExitCode {
     let mut notes = Writing::new(rt.stderr());
     // A word that is not UTF-8 is in no form, and neither are no words.
     let words = words(&rt, alloc);
-    let status = status_of(alloc, words, &mut source, &mut out, &mut notes);
+    let status = status_of(&rt, alloc, words, &mut source, &mut out, &mut notes);
     exit_code(status)
 }

@@ -99,6 +99,9 @@ not_job : (command : Command) (bytes : List ℕ) (fault : JobFault) → IsInput 
 not_job (commands.Replay guard) bytes fault input bad = bad
 not_job (commands.Probe guard places) bytes fault input bad = bad
 not_job commands.Check bytes fault input bad = bad
+not_job (commands.Watch guard threads) bytes fault input bad = bad
+not_job (commands.Monitor guard threads) bytes fault input bad = no_job bytes input.0 fault input.1 bad
+not_job (commands.Counts guard) bytes fault input bad = bad
 not_job commands.Run bytes fault input bad = no_job bytes input.0 fault input.1 bad
 not_job commands.List bytes fault input bad = no_job bytes input.0 fault input.1 bad
 not_job commands.Record bytes fault input bad = no_job bytes input.0 fault input.1 bad
@@ -110,6 +113,9 @@ not_log : (command : Command) (bytes : List ℕ) (fault : LogFault) → IsInput 
 not_log (commands.Replay guard) bytes fault input bad = bad.none input.0 input.1
 not_log (commands.Probe guard places) bytes fault input bad = bad.none input.0 input.1
 not_log commands.Check bytes fault input bad = bad.none input.0 input.1
+not_log (commands.Watch guard threads) bytes fault input bad = bad.none input.0 input.1
+not_log (commands.Monitor guard threads) bytes fault input bad = bad
+not_log (commands.Counts guard) bytes fault input bad = bad.none input.0 input.1
 not_log commands.Run bytes fault input bad = bad
 not_log commands.List bytes fault input bad = bad
 not_log commands.Record bytes fault input bad = bad
@@ -138,6 +144,12 @@ not_unordered meanings (commands.Probe guard places) bytes text earlier later in
     no_pair _ earlier later a.result.marked
 not_unordered meanings commands.Check bytes text earlier later input a =
     no_first a.log earlier later (subst IsOrdered (a.read.one input.0 input.1) input.2) a.order
+not_unordered meanings (commands.Watch guard threads) bytes text earlier later input a =
+    no_first a.log earlier later (subst IsOrdered (a.read.one input.0 input.1) input.2) a.found.0
+not_unordered meanings (commands.Monitor guard threads) bytes text earlier later input a =
+    no_pair _ earlier later a.found.result.marked
+not_unordered meanings (commands.Counts guard) bytes text earlier later input a =
+    no_first a.log earlier later (subst IsOrdered (a.read.one input.0 input.1) input.2) a.found.0
 not_unordered meanings commands.Run bytes text earlier later input a = subst IsPair a.1 tt
 not_unordered meanings commands.List bytes text earlier later input a = subst IsPair a.1 tt
 not_unordered meanings commands.Record bytes text earlier later input a = subst IsPair a.1 tt

@@ -13,7 +13,7 @@ use Rattle.lifeguard.specs.Words.{guard_word}
 use Rattle.replay_probes.specs.Meaning.{Meaning}
 use Rattle.paralog_top.specs.declared.command.Command.{Command}
 use Rattle.paralog_top.specs.declared.command.Command.TheVariants as commands
-use Rattle.paralog_top.specs.Commands.{IsAllowed, IsCommand, IsNoCommand, words_of}
+use Rattle.paralog_top.specs.Commands.{IsAllowed, IsCommand, IsNoCommand, MayRun, words_of}
 use Rattle.paralog_top.specs.Generating.{MayDraw}
 use Rattle.paralog_top.specs.ProbeNames.{AreChosen, IsFirst, names_at, place_named}
 
@@ -39,6 +39,11 @@ taken_apart meanings words =
     else if begins words (codes "probe") then
     commands.Probe (guard_in (word_at 1 words)) (filter_map (place_named meanings) (drop 2 words))
     else if begins words (codes "check") then commands.Check
+    else if begins words (codes "watch") then
+    commands.Watch (guard_in (word_at 1 words)) (digits_value 10 (word_at 2 words))
+    else if begins words (codes "monitor") then
+    commands.Monitor (guard_in (word_at 1 words)) (digits_value 10 (word_at 2 words))
+    else if begins words (codes "counts") then commands.Counts (guard_in (word_at 1 words))
     else if begins words (codes "run") then commands.Run
     else if begins words (codes "list") then commands.List
     else if begins words (codes "record") then commands.Record
@@ -73,6 +78,13 @@ same_command meanings (commands.Probe guard places) may =
     (same_guard guard)
     ∙ ap (commands.Probe guard) (same_places meanings places may.first)
 same_command meanings commands.Check may = refl
+same_command meanings (commands.Watch guard threads) may =
+    ap (λ (g : Name). commands.Watch g (digits_value 10 (decimal threads))) (same_guard guard)
+    ∙ ap (commands.Watch guard) (same_number threads (omega (arith, may.few)))
+same_command meanings (commands.Monitor guard threads) may =
+    ap (λ (g : Name). commands.Monitor g (digits_value 10 (decimal threads))) (same_guard guard)
+    ∙ ap (commands.Monitor guard) (same_number threads (omega (arith, may.few)))
+same_command meanings (commands.Counts guard) may = ap commands.Counts (same_guard guard)
 same_command meanings commands.Run may = refl
 same_command meanings commands.List may = refl
 same_command meanings commands.Record may = refl
@@ -103,7 +115,23 @@ no_probe meanings operands none command is =
     none (guard_in (word_at 0 operands)) (filter_map (place_named meanings) (drop 1 operands)) probe.1
     (ap (drop 1) probe.0)
 
--- and so are words that begin with `gen`
+-- and so are words that begin with `watch`
+pub no_watch : (meanings : List Meaning) (operands : List (List ℕ))
+    → ((guard : Name) (threads : ℕ) → MayRun threads → operands ≡ guard_word guard ∷ decimal threads ∷ [] → ⊥)
+    → IsNoCommand meanings (codes "watch" ∷ operands)
+no_watch meanings operands none command is =
+    let watch = is_taken meanings (codes "watch" ∷ operands) command is in
+    none (guard_in (word_at 0 operands)) (digits_value 10 (word_at 1 operands)) watch.1 (ap (drop 1) watch.0)
+
+-- and with `monitor`
+pub no_monitor : (meanings : List Meaning) (operands : List (List ℕ))
+    → ((guard : Name) (threads : ℕ) → MayRun threads → operands ≡ guard_word guard ∷ decimal threads ∷ [] → ⊥)
+    → IsNoCommand meanings (codes "monitor" ∷ operands)
+no_monitor meanings operands none command is =
+    let monitor = is_taken meanings (codes "monitor" ∷ operands) command is in
+    none (guard_in (word_at 0 operands)) (digits_value 10 (word_at 1 operands)) monitor.1 (ap (drop 1) monitor.0)
+
+-- and with `gen`
 pub no_generated : (meanings : List Meaning) (operands : List (List ℕ))
     → ((seed size : ℕ) → MayDraw seed size → operands ≡ decimal seed ∷ decimal size ∷ [] → ⊥)
     → IsNoCommand meanings (codes "gen" ∷ operands)

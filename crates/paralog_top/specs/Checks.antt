@@ -1,12 +1,34 @@
 -- `check`: the order of a log.
-use Rattle.std.specs.Prelude.{◌≡◌, ℕ, List, [], ◌∷◌, ◌++◌, codes}
+use Rattle.std.specs.Prelude.{◌≡◌, ℕ, ◌≤◌, length, List, [], ◌∷◌, ◌++◌, codes}
+use Rattle.pl_base.specs.declared.layout.TheConstants.{MAX_RECORDS}
 use Rattle.pl_event.specs.declared.log.Log.{Log}
 use Rattle.pl_event.specs.Conflicts.{IsOrdered}
+use Rattle.pl_event.specs.Runs.{IsRunLog}
 use Rattle.log_text.specs.Reading.{IsOnly}
 use Rattle.log_text.specs.Spelling.{point_word}
 use Rattle.log_check.specs.Answers.{NamesFirst}
 use Rattle.paralog_top.specs.declared.answer.Verdict.{Verdict}
+use Rattle.paralog_top.specs.declared.checked.Checked.{Checked}
+use Rattle.paralog_top.specs.declared.checked.Checked.TheVariants as checked
 use Rattle.paralog_top.specs.declared.answer.Verdict.TheVariants.{Clean, Reports, Unordered}
+
+-- the log that was checked: it is this one and is ordered, or has this first pair that is not
+abbrev pub HasChecked : Log → Checked → Type 0
+HasChecked log (checked.Ordered ordered) = (ordered.log ≡ log) × IsOrdered log
+HasChecked log (checked.Unordered earlier later) = NamesFirst log earlier later
+
+-- the bytes are this log alone, and this was found of its order
+pub record IsCheckedLog (bytes : List ℕ) (found : Checked) : Type 0 where
+  pub log : Log
+  pub read : IsOnly bytes log
+  pub run : IsRunLog log
+  pub few : length log.lines ≤ MAX_RECORDS
+  pub order : HasChecked log found
+
+-- what the verdict says of what was found
+abbrev pub verdict_on : Checked → Verdict
+verdict_on (checked.Ordered ordered) = Clean
+verdict_on (checked.Unordered earlier later) = Unordered earlier later
 
 -- a log is ordered, or has this first pair that is not
 abbrev pub HasOrder : Log → Verdict → Type 0

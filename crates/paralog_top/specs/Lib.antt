@@ -7,6 +7,7 @@ pub mod Checks
 pub mod Runs
 pub mod RunText
 pub mod Recordings
+pub mod Watches
 pub mod Answers
 pub mod Refusals
 pub mod Notes

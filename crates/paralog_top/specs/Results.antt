@@ -8,13 +8,12 @@ use Rattle.log_text.specs.WellFormed.{IsLogText}
 use Rattle.lifeguard.specs.Rules.{Rules}
 use Rattle.lifeguard.specs.declared.guard.Name.{Name}
 use Rattle.lifeguard.specs.declared.guard.Name.TheVariants as guard
-use Rattle.lifeguard.specs.State.{State, Masks, span}
-use Rattle.lifeguard.specs.Plain.{plain_result}
+use Rattle.lifeguard.specs.State.{State}
+use Rattle.lifeguard.specs.Plain.{final_state}
 use Rattle.addrcheck.specs.AddrRules.{addr_rules}
 use Rattle.taintcheck.specs.TaintRules.{taint_rules}
 use Rattle.memcheck.specs.MemRules.{mem_rules}
-use Rattle.report_text.specs.ReportText.{report_text}
-use Rattle.report_text.specs.Runs.{runs_of}
+use Rattle.report_text.specs.StateText.{state_text}
 use Rattle.replay_probes.specs.Meaning.{Meaning, line_over}
 use Rattle.paralog_top.specs.declared.answer.Verdict.{Verdict}
 use Rattle.paralog_top.specs.declared.answer.Verdict.TheVariants.{Clean, Reports}
@@ -23,21 +22,6 @@ abbrev pub rules_of : Name → Rules
 rules_of guard.Addr = addr_rules
 rules_of guard.Taint = taint_rules
 rules_of guard.Mem = mem_rules
-
--- what the plain rules give over all events of a log, one by one in executed order
-abbrev pub replayed : Rules → Log → State
-replayed rules log = plain_result rules log.pages (events_of log.lines)
-
--- the masks of the 34 registers of each hart
-abbrev pub mask_row : Masks → ℕ → List ℕ
-mask_row masks hart = map (masks hart) (span 0 34)
-
-abbrev pub mask_rows : Masks → ℕ → List (List ℕ)
-mask_rows masks harts = map (mask_row masks) (span 0 harts)
-
--- a state as a text: its reports, its masks and its nibbles
-abbrev pub state_text : Name → ℕ → State → List ℕ
-state_text name harts state = report_text name harts state.reports (mask_rows state.masks harts) (runs_of state.bytes)
 
 -- whether a lifeguard has a report
 abbrev pub verdict_of : Bool → Verdict
@@ -49,8 +33,8 @@ state_verdict state = verdict_of (length state.reports == 0)
 
 -- the text is that of the log's plain result, and the verdict says whether that has a report
 pub record IsResult (rules : Rules) (log : Log) (text : List ℕ) (verdict : Verdict) : Type 0 where
-  pub told : text ≡ state_text rules.name log.harts (replayed rules log)
-  pub marked : verdict ≡ state_verdict (replayed rules log)
+  pub told : text ≡ state_text rules.name log.harts (final_state rules log)
+  pub marked : verdict ≡ state_verdict (final_state rules log)
 
 -- ---- `replay`
 

@@ -1,18 +1,15 @@
 //! `check`: whether each two conflicting records of a log are ordered.
-ghost use Rattle.std.specs.Prelude.{◌≡◌, ◌<◌, ◌^◌, length, IfOk, IfErr};
-ghost use Rattle.pl_event.specs.Runs.{IsRunLog};
+ghost use Rattle.std.specs.Prelude.{◌≡◌, IfOk, IfErr};
 ghost use Rattle.paralog_top.specs.declared.input.Input.TheVariants as kinds;
 ghost use Rattle.paralog_top.specs.Asked.{tells};
-ghost use Rattle.paralog_top.specs.Checks.{HasOrder, IsChecked, order_line};
+ghost use Rattle.paralog_top.specs.Checks.{IsChecked, order_line, verdict_on};
 ghost use Rattle.paralog_top.specs.Refusals.{IsRefusal, Reads};
 
 use crate::answer::{Answer, Verdict};
+use crate::checked::{Checked, read_checked};
 use crate::refusal::Refusal;
-use log_check::CheckRefused;
-use log_text::{log_laws, read_source};
-use pl_base::layout::MAX_LOG_BYTES;
 use pl_base::{NoMemory, Source};
-use pl_event::{Log, Point};
+use pl_event::Point;
 use std::alloc::{AllocError, Global};
 
 /// The order of the log that the source has: a line that says that it is ordered, or names the first pair that is not.
@@ -22,35 +19,32 @@ pub fn check<S: Source>(alloc: Global, source: &mut S) -> Result<Answer, Refusal
     ensures err { let input = tells S.left S.faults source.old source.new in
         IfErr result (IsRefusal kinds.Log input) }
 {
-    match read_source(alloc, source, MAX_LOG_BYTES) {
-        Ok(log) => {
-            log_laws();
-            match order_of(alloc, log) {
-                Ok(answer) => Ok(answer),
-                Err(NoMemory) => Err(Refusal::NoMemory),
-            }
-        }
-        Err(end) => Err(Refusal::of_log(end)),
+    match read_checked(alloc, source) {
+        Ok(checked) => match order_told(alloc, &checked) {
+            Ok(answer) => Ok(answer),
+            Err(NoMemory) => Err(Refusal::NoMemory),
+        },
+        Err(refusal) => Err(refusal),
     }
 }
 
-/// The order of a log, as an answer.
-fn order_of(alloc: Global, log: Log) -> Result<Answer, NoMemory>
-    requires log { IsRunLog log }
-    requires few { length log.lines < 2 ^ 32 }
-    ensures order { IfOk result (λ answer. HasOrder log answer.verdict) }
+/// What was found, as an answer.
+fn order_told(alloc: Global, checked: &Checked) -> Result<Answer, NoMemory>
+    ensures verdict { IfOk result (λ answer. answer.verdict ≡ verdict_on checked.now) }
     ensures text { IfOk result (λ answer. answer.text.items ≡ order_line answer.verdict) }
 {
-    match log_check::check(alloc, log) {
-        Ok(_) => Ok(Answer {
+    match checked {
+        Checked::Ordered(_) => Ok(Answer {
             text: b"ordered\n".to_vec(alloc)?,
             verdict: Verdict::Clean,
         }),
-        Err(CheckRefused::Unordered { earlier, later, .. }) => Ok(Answer {
-            text: unordered_line(alloc, earlier, later)?,
-            verdict: Verdict::Unordered { earlier, later },
+        Checked::Unordered { earlier, later } => Ok(Answer {
+            text: unordered_line(alloc, *earlier, *later)?,
+            verdict: Verdict::Unordered {
+                earlier: *earlier,
+                later: *later,
+            },
         }),
-        Err(CheckRefused::NoMemory { .. }) => Err(NoMemory),
     }
 }
 

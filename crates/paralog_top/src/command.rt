@@ -4,9 +4,9 @@ ghost use Rattle.paralog_top.specs.Commands.{IsCommand, IsNoCommand, input_of};
 
 use crate::chosen::Chosen;
 use crate::generated::parse_generated;
+use crate::guards::{guard_and_threads, only_guard};
 use crate::input::Input;
 use crate::probe::parse_probe;
-use crate::replay::parse_replay;
 use lifeguard::Name;
 use replay_probes::Probe;
 
@@ -19,6 +19,12 @@ pub enum Command {
     Probe(Name, Chosen),
     /// `check`: whether the records of a log are ordered.
     Check,
+    /// `watch L n`: the report text of a log, by a worker for each hart, on so many threads.
+    Watch { guard: Name, threads: u8 },
+    /// `monitor L n`: the report text of a job's run, by a worker for each hart, while it runs, on so many threads.
+    Monitor { guard: Name, threads: u8 },
+    /// `counts L`: how many checks the workers of a log make, and how many of them miss in the filter.
+    Counts(Name),
     /// `run`: the run text of a job.
     Run,
     /// `list`: the listing of a job.
@@ -48,9 +54,13 @@ impl Command {
         ensures { result ≡ input_of self.now }
     {
         match self {
-            Command::Replay(_) | Command::Probe(..) | Command::Check | Command::Upgrade =>
-                Input::Log,
-            Command::Run | Command::List | Command::Record => Input::Job,
+            Command::Replay(_)
+            | Command::Probe(..)
+            | Command::Check
+            | Command::Watch { .. }
+            | Command::Counts(_)
+            | Command::Upgrade => Input::Log,
+            Command::Monitor { .. } | Command::Run | Command::List | Command::Record => Input::Job,
             Command::Generate { .. } => Input::Nothing,
         }
     }
@@ -63,12 +73,21 @@ fn parse_operands(verb: &str, operands: &[String], probes: &[Box<dyn Probe>]) ->
         (IsCommand (map (λ p. meaning p) probes.now) (verb.now ∷ map string_bytes operands.now)) }
 {
     match verb {
-        "replay" => Some(Command::Replay(parse_replay(operands)?)),
+        "replay" => Some(Command::Replay(only_guard(operands)?)),
         "probe" => {
             let (guard, chosen) = parse_probe(operands, probes)?;
             Some(Command::Probe(guard, chosen))
         }
         "check" if operands.is_empty() => Some(Command::Check),
+        "watch" => {
+            let (guard, threads) = guard_and_threads(operands)?;
+            Some(Command::Watch { guard, threads })
+        }
+        "monitor" => {
+            let (guard, threads) = guard_and_threads(operands)?;
+            Some(Command::Monitor { guard, threads })
+        }
+        "counts" => Some(Command::Counts(only_guard(operands)?)),
         "run" if operands.is_empty() => Some(Command::Run),
         "list" if operands.is_empty() => Some(Command::List),
         "record" if operands.is_empty() => Some(Command::Record),

@@ -8,19 +8,23 @@ ghost use Rattle.paralog_top.specs.Refusals.{IsRefusal, Reads};
 use crate::answer::Answer;
 use crate::check::check;
 use crate::command::Command;
+use crate::counts::counts;
 use crate::generated::generated;
 use crate::list::list;
+use crate::monitor::monitor;
 use crate::probe::probe;
 use crate::recorded::recorded;
 use crate::refusal::Refusal;
 use crate::replay::replay;
 use crate::run::run;
 use crate::upgrade::upgrade;
+use crate::watch::watch;
 use pl_base::Source;
 use replay_probes::Probe;
 use std::alloc::Global;
 
-/// The command's answer to the input that the source has, with these probes.
+/// The command's answer to the input that the source has, with these probes. All of it is done on this thread, however
+/// many the words name.
 pub fn answer_to<S: Source>(
     alloc: Global,
     command: Command,
@@ -39,6 +43,9 @@ pub fn answer_to<S: Source>(
         Command::Replay(guard) => replay(alloc, guard, source),
         Command::Probe(guard, chosen) => probe(alloc, guard, &chosen, probes, source),
         Command::Check => check(alloc, source),
+        Command::Watch { guard, .. } => watch(alloc, guard, source),
+        Command::Monitor { guard, .. } => monitor(alloc, guard, source),
+        Command::Counts(guard) => counts(alloc, guard, source),
         Command::Run => run(alloc, source),
         Command::List => list(alloc, source),
         Command::Record => recorded(alloc, source),

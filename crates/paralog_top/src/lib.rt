@@ -6,13 +6,17 @@
 
 mod answer;
 mod check;
+mod checked;
 mod chosen;
 mod command;
+mod counts;
 mod dispatch;
 mod ends;
 mod generated;
+mod guards;
 mod input;
 mod list;
+mod monitor;
 mod notes;
 mod play;
 mod player;
@@ -24,12 +28,16 @@ mod result;
 mod run;
 mod run_text;
 mod status;
+mod threads;
 mod top;
 mod upgrade;
+mod watch;
 
 pub use chosen::Chosen;
 pub use command::Command;
 pub use input::Input;
+pub use job_watch::{JobFeed, JobPlan};
 pub use notes::note;
 pub use status::Status;
+pub use threads::{paralog, threaded};
 pub use top::plain_top;

@@ -17,9 +17,9 @@ ghost use Rattle.paralog_top.specs.inner.Playing.{HasWatched, IsPlayed};
 
 use crate::answer::Answer;
 use crate::chosen::Chosen;
+use crate::guards::guard_of;
 use crate::play::play_rows;
 use crate::refusal::Refusal;
-use crate::replay::guard_of;
 use crate::result::result_of;
 use addrcheck::AddrCheck;
 use lifeguard::{Lifeguard, Name};

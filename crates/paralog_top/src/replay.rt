@@ -1,9 +1,7 @@
 //! `replay L`: the plain rules over all events of a log.
-ghost use Rattle.std.specs.Prelude.{◌≡◌, ◌≤◌, ◌+◌, ◌∷◌, [], List, ℕ, All, MatchOption, IfOk, IfErr, map, string_bytes};
+ghost use Rattle.std.specs.Prelude.{◌≡◌, ◌≤◌, ◌+◌, List, ℕ, All, IfOk, IfErr};
 ghost use Rattle.std.specs.declared.option.Option.{Option};
 ghost use Rattle.pl_base.specs.declared.layout.TheConstants.{MAX_HARTS, MAX_LOG_BYTES, PAGE_COUNT};
-ghost use Rattle.lifeguard.specs.declared.guard.Name.{Name};
-ghost use Rattle.lifeguard.specs.Words.{guard_word};
 ghost use Rattle.log_text.specs.Streaming.{IsEnd, IsStreamed, KeepsFaults, WasRead, begun_log};
 ghost use Rattle.paralog_top.specs.declared.input.Input.TheVariants as kinds;
 ghost use Rattle.paralog_top.specs.Asked.{tells};
@@ -22,30 +20,6 @@ use pl_base::Source;
 use pl_base::layout::MAX_LOG_BYTES;
 use std::alloc::Global;
 use taintcheck::TaintCheck;
-
-/// The lifeguard that the only word after `replay` names.
-pub fn parse_replay(operands: &[String]) -> Option<Name>
-    ensures { let words = map string_bytes operands.now in MatchOption result
-        ((guard : Name) → words ≡ guard_word guard ∷ [] → ⊥) (λ guard. words ≡ guard_word guard ∷ []) }
-{
-    match operands {
-        [word] => guard_of(word.as_str()),
-        _ => None,
-    }
-}
-
-/// The lifeguard that a word names.
-pub fn guard_of(word: &str) -> Option<Name>
-    ensures { MatchOption result
-        ((guard : Name) → word.now ≡ guard_word guard → ⊥) (λ guard. word.now ≡ guard_word guard) }
-{
-    match word {
-        "addrcheck" => Some(Name::Addr),
-        "taintcheck" => Some(Name::Taint),
-        "memcheck" => Some(Name::Mem),
-        _ => None,
-    }
-}
 
 /// The replay of the log that the source has, under the named lifeguard.
 pub fn replay<S: Source>(alloc: Global, guard: Name, source: &mut S) -> Result<Answer, Refusal>

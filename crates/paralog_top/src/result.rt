@@ -3,7 +3,8 @@ ghost use Rattle.std.specs.Prelude.{◌≡◌, ◌<◌, IfOk};
 ghost use Rattle.pl_event.specs.declared.log.Log.{Log};
 ghost use Rattle.pl_event.specs.Numbers.{events_of};
 ghost use Rattle.lifeguard.specs.Shadow.{Represents, state_of};
-ghost use Rattle.paralog_top.specs.Results.{IsResult, mask_row, mask_rows, verdict_of as verdict_by};
+ghost use Rattle.report_text.specs.StateText.{mask_row, mask_rows};
+ghost use Rattle.paralog_top.specs.Results.{IsResult, verdict_of as verdict_by};
 
 use crate::answer::{Answer, Verdict};
 use lifeguard::{Lifeguard, PlainMonitor};
@@ -12,7 +13,7 @@ use report_text::{runs_of_plain, text};
 use std::alloc::Global;
 
 /// What a lifeguard's result says, by whether it has no report.
-fn verdict_of(clean: bool) -> Verdict
+pub(crate) fn verdict_of(clean: bool) -> Verdict
     ensures { result ≡ verdict_by clean }
 {
     if clean {

@@ -13,8 +13,9 @@ use pl_base::{Sink, Source};
 use replay_probes::Probe;
 use std::alloc::Global;
 
-/// Runs the command that the words are, on one thread: reads its input, where it has one, to the end, and writes its
-/// answer to `out` and, for any status but `Clean` and `Reports`, one line to `notes`.
+/// Runs the command that the words are, on one thread, however many they name: reads its input, where it has one,
+/// to the end, and writes its answer to `out` and, for any status but `Clean` and `Reports`, one line to `notes`. It
+/// never waits.
 ///
 /// `Usage` comes before anything is read; `ReadFault` and `TooLong` by reading; `BadJob` and `BadLog` before anything
 /// is written; `Unordered` with the answer; `WriteFault` last. `NoMemory` may come at any place before something is

@@ -1,7 +1,7 @@
 use Rattle.std.proofs.Common.{◌∙◌, ◌++◌, ◌∷◌, [], List, ℕ, ap, sym}
 use Rattle.lifeguard.specs.Shadow.{state_of}
-use Rattle.paralog_top.specs.Results.{mask_row}
-use Rattle.paralog_top.proofs.RowLemmas.{map_span-more}
+use Rattle.report_text.specs.StateText.{mask_row}
+use Rattle.watch_text.proofs.RowLemmas.{map_span-more}
 use Rattle.paralog_top.proofs.result.mask_table.Goals as goal
 
 pub loop-hart-preserved : goal.loop-hart-preserved

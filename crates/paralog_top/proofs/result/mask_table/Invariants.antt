@@ -1,7 +1,7 @@
 use Rattle.std.proofs.Common.{◌≡◌, map}
 use Rattle.lifeguard.specs.State.{span}
 use Rattle.lifeguard.specs.Shadow.{state_of}
-use Rattle.paralog_top.specs.Results.{mask_row}
+use Rattle.report_text.specs.StateText.{mask_row}
 use Rattle.paralog_top.proofs.result.mask_table.Given as goal
 
 abbrev pub invariant-loop-hart : goal.invariant-loop-hart

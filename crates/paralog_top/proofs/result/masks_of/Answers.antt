@@ -1,6 +1,6 @@
 use Rattle.std.proofs.Common.{arith, rules}
 use Rattle.lifeguard.specs.Shadow.{state_of}
-use Rattle.paralog_top.proofs.RowLemmas.{row-more}
+use Rattle.watch_text.proofs.RowLemmas.{row-more}
 use Rattle.paralog_top.proofs.result.masks_of.Goals as goal
 
 pub loop-register-preserved : goal.loop-register-preserved

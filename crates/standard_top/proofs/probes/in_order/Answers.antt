@@ -1,7 +1,7 @@
 use Rattle.std.proofs.Common.{[], ◌∷◌, ap, map}
 use Rattle.standard_probes.specs.Probes.{kinds_meaning, harts_meaning, bytes_meaning, alert_meaning}
 use Rattle.standard_top.proofs.Handed.{handed}
-use Rattle.standard_top.proofs.top.in_order.Goals as goal
+use Rattle.standard_top.proofs.probes.in_order.Goals as goal
 
 pub returns-clause-meanings : goal.returns-clause-meanings
 returns-clause-meanings g c =

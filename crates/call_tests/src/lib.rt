@@ -18,4 +18,6 @@ mod memory_faults;
 #[cfg(test)]
 mod own_probe;
 #[cfg(test)]
+mod recorded_log;
+#[cfg(test)]
 mod written_log;

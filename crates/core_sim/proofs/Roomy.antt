@@ -13,7 +13,7 @@ use Rattle.core_sim.specs.Valid.{IsValidJob}
 use Rattle.core_sim.proofs.Opening.{rises, few_pages}
 use Rattle.core_sim.proofs.Starts.{other_runs, run_at, runs_behind}
 
--- the first of the runs that are left, and the others behind it
+-- the first of the runs that are left, and the others after it
 pub can_first : (before : ℕ → Bool) (runs : List PageRun) (place : ℕ) (run : PageRun) → place < length runs → CanMapRuns before (drop place runs) → CanMapRun before (get_or runs place run)
 can_first before runs place run within can =
     let both : CanMapRuns before (get_or runs place run ∷ drop (place + 1) runs) = subst (CanMapRuns before) (run_at runs place run within) can in
@@ -41,7 +41,7 @@ can_start : (job : Job) → IsValidJob job → CanMapRuns (λ _. false) (start_r
 can_start job valid =
     can_rising (λ _. false) 0 (start_runs job) (λ page from. refl) (rises job valid) (omega (arith, count_none 4096, few_pages job valid))
 
--- the first run, and behind it the others, as a list's parts
+-- the first run, and after it the others, as a list's parts
 pub can_text : (job : Job) (none : List (Option PageImage)) (runs : List PageRun) (run : PageRun) → IsValidJob job → mapped none ≡ (λ _. false) →
     runs ≡ start_runs job → run ≡ get_or runs 0 run → CanMapRun (mapped none) run
 can_text job none runs run valid m runs_are is =

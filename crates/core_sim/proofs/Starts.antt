@@ -73,7 +73,7 @@ length_text (word ∷ words) =
     let four : length (to_le_bytes w32 word) ≡ 4 = refl in
     omega (arith, length-append (to_le_bytes w32 word) (text_bytes words), length_text words)
 
--- the runs behind the text
+-- the runs after the text
 abbrev pub other_runs : Job → List PageRun
 other_runs job = data_runs job.data_bytes ++ heap_run ∷ stack_run job.harts ∷ []
 

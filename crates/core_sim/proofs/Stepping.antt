@@ -98,7 +98,7 @@ pub limits : (job : Job) (entries : List Entry) (old : MachineImage) → Stands 
 limits job entries old stands live reached =
     ((λ none. live (ap live_harts stands.harts ∙ none)), omega (arith, prefix_within job entries stands.prefix, stands.steps, stands.limit))
 
--- a hart of the list, whatever stands past its end
+-- a hart of the list, whatever is past its end
 pub hart_is : (harts : List Standing) (hart : ℕ) (d e : Standing) → hart < length harts → slice_index_or harts hart d ≡ slice_index_or harts hart e
 hart_is [] hart d e within = absurd (omega arith)
 hart_is (h ∷ hs) zero d e within = refl

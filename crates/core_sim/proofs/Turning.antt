@@ -98,7 +98,7 @@ items_same all at (item ∷ rest) live is =
       ]
     ]
 
--- where the list stands after some turns: at an item, or behind the list
+-- where the list is after some turns: at an item, or after the list
 record OnList (items : List Item) (past : List ℕ) (place : Place) : Type 0 where
   at : ℕ
   place_is : place ≡ Listed at
@@ -126,7 +126,7 @@ first_among : (live : List ℕ) → live ≢ [] → is_among_live live (get_or l
 first_among [] some = absurd (some refl)
 first_among (x ∷ xs) some = let here : (x == x) ≡ true = eq-eqb x x refl in rw here refl
 
--- behind the list turns of one step begin, or go on
+-- after the list turns of one step begin, or go on
 rounds_begin : (items : List Item) (past live : List ℕ) (from : ℕ) → first_live from live ≡ round_hart (behind_list items past) live →
     next_item items past live ≡ None → list_any (of_hart (round_hart (behind_list items past) live)) (items_left items past) ≡ false →
     behind_item (round_hart (behind_list items past) live) (items_left items past) ≡ [] →
@@ -145,7 +145,7 @@ rounds_begin items past live from hart_is none over left_is =
       });
     })
 
--- an item begins, or the first turn behind the list
+-- an item begins, or the first turn after the list
 item_begins : (items : List Item) (past live : List ℕ) (at : ℕ) → live ≢ [] → items_left items past ≡ drop at items → behind_list items past ≡ [] →
     Begins (schedule.List items) past (next_begun (schedule.List items) past live) (listed_turn at (drop at items) live)
 item_begins items past live at some left none_behind = elim (items_same items at (drop at items) live refl) [

@@ -99,7 +99,7 @@ module _ (labels : List (List ℕ × ℕ)) (rows : List Row) (i : ℕ) (r : Row)
       built-fault labels (map placed rows) (map placed (drop (i + 1) rows)) (placed r) old (fault_at r.line cause.Label) here
       (ap (λ (o : Option ℕ). on_line r.line (row_cells (placed r) o)) (sym at))
 
--- behind the last row
+-- after the last row
 pub rows-all : (labels : List (List ℕ × ℕ)) (rows : List Row) (i : ℕ) (words : List ℕ) → length rows ≤ i
     → Built labels (map placed rows) (map placed (drop i rows)) words → IsTextOf labels (map placed rows) words
 rows-all labels rows i words end built =

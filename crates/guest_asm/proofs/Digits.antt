@@ -9,7 +9,7 @@ use Rattle.guest_asm.specs.Numbers.{digit_value, is_digit, digits_of}
 abbrev step : ℕ → ℕ → ℕ → ℕ
 step base n b = n * base + digit_value b
 
--- the number that digits make behind a value
+-- the number that digits make after a value
 abbrev pub run : ℕ → ℕ → List ℕ → Option ℕ
 run base value [] = Some value
 run base value (b ∷ bs) = cond (ltb (digit_value b) base && ltb (value * base + digit_value b) (2 ^ 32)) (run base (value * base + digit_value b) bs) None

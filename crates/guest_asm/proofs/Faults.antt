@@ -165,7 +165,7 @@ abbrev pub FindsNone : (ℕ → JobCause → Type 0) → Type 0
 FindsNone Finds = (line : ℕ) (c : JobCause) → Finds line c → ⊥
 
 module _ (bytes : List ℕ) where
-  -- what is found at the line behind these
+  -- what is found at the line after these
   found_there : (before : List Meaning) (o : Option Meaning) (r : List (Option Meaning)) → meanings bytes ≡ map Some before ++ o ∷ r
       → (c : JobCause) → FirstFinds bytes (length before + 1) c → Breaks before o c
   found_there before o r e c (inl l) =

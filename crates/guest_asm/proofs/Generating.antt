@@ -19,7 +19,7 @@ pub drawn-more : (x a b : ℕ) → drawn_after x (a + b) ≡ drawn_after (drawn_
 drawn-more x a zero = ap (drawn_after x) (add-zero a)
 drawn-more x a (suc b) = ap (drawn_after x) (add-suc a b) ∙ ap drawn (drawn-more x a b)
 
--- an action is the first one behind the draws of those before it
+-- an action is the first one after the draws of those before it
 pub action-from : (x n : ℕ) → action_at (drawn_after x (2 * n)) 0 ≡ action_at x n
 action-from x n =
     ap₂ (λ (a b : ℕ). instructions_of (action_numbered (choice 8 a)) (choice 64 b)) (sym (drawn-more x (2 * n) 1)) (sym (drawn-more x (2 * n) 2))
@@ -36,7 +36,7 @@ actions-more x n old code new before added =
 pub draws-more : (x n y : ℕ) → y ≡ drawn (drawn (drawn_after x (2 * n))) → y ≡ drawn_after x (2 * (n + 1))
 draws-more x n y e = e ∙ sym (drawn-more x (2 * n) 2) ∙ ap (drawn_after x) (omega arith)
 
--- the state and the code behind the first harts
+-- the state and the code after the first harts
 pub record Behind (s z harts x : ℕ) (code : List Instr) : Type 0 where
   pub draws : x ≡ drawn_after s (2 * z * harts)
   pub drawn_code : code ≡ code_of_first s z harts
@@ -64,7 +64,7 @@ word-more code i d old word within cells cell =
     subst (λ (cs : List Cell). AreCells cs (old ++ word ∷ [])) (sym (map_more (λ j. coded j) code i d within))
     (AreCells-append (map (λ j. coded j) (take i code)) (coded (get_or code i d) ∷ []) old (word ∷ []) cells (cell, tt))
 
--- the code behind each of the four harts
+-- the code after each of the four harts
 pub record Four (s z : ℕ) (c0 c1 c2 c3 c4 : List Instr) : Type 0 where
   pub none : c0 ≡ []
   pub one : c1 ≡ code_of_first s z 1

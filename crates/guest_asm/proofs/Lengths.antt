@@ -90,7 +90,7 @@ parted_first r o (Err c) is rest cells e = absurd cc
 no_words : (xs : List Cell) → nothing {E = JobFault} ≡ Ok xs → length xs ≡ 0
 no_words xs k = let same : xs ≡ [] = cc in ap length same
 
--- what is said of the lines behind one
+-- what is said of the lines after one
 abbrev TextFrom : List (List ℕ × ℕ) → ℕ → List Meaning → Type 0
 TextFrom labels line lines = (place : Place) (cells : List Cell) → second_pass labels (rows_from line place lines) ≡ Ok cells → length cells + place.words ≡ (fold after place lines).words
 

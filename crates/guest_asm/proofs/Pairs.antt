@@ -67,7 +67,7 @@ missed : (rest : List ℕ) (o : Option ℕ) → None ≡ with_rest rest o → op
 missed rest None e = refl
 missed rest (Some n) e = absurd cc
 
--- no pair stands there
+-- no pair is there
 pub pairs-none : (text : List ℕ) → eqb (length text) 0 ≡ false → None ≡ pair_at text → hex_pairs text ≡ None
 unfolding pair_at
 pairs-none [] full e = absurd cc

@@ -28,7 +28,7 @@ pub record IsRead (bytes rest : List ℕ) (number : ℕ) (scan : Scan) : Type 0 
 pub read-none : (bytes : List ℕ) (scan : Scan) → Keeps [] scan → IsRead bytes bytes 1 scan
 read-none bytes scan keeps = record { before = []; told = refl; keeps = keeps; at = refl; room = omega arith }
 
--- the line that stands next
+-- the next line
 pub cut_next : (rest : List ℕ) → eqb (length rest) 0 ≡ false → lines_of rest ≡ before_first is_end rest ∷ lines_of (after_first is_end rest)
 cut_next [] full = absurd cc
 cut_next (b ∷ bs) full = lines-cut b bs

@@ -138,7 +138,7 @@ passed-end before lines sound h = by (lacks (statements_of before) (place_of bef
         let same : before ≡ lines = cc in
         subst Passed same (record { sound = sound; complete = e })
 
--- what holds of the lines behind one more
+-- what holds of the lines after one more
 abbrev Onward : List (List ℕ) → List Meaning → List Meaning → Type 0
 Onward texts before lines = (m : Meaning) → Sound (statements_of (before ++ m ∷ [])) → first_pass (before ++ m ∷ []) texts ≡ Ok lines → Passed lines
 

@@ -193,7 +193,7 @@ module _ (bytes : List ℕ) (lines : List Meaning) (meant : meanings bytes ≡ m
   told_with cells (Ok more) h = h
   told_with cells (Err fault) h = h
 
-  -- one line, and the lines behind it
+  -- one line, and the lines after it
   module _ (before : List Meaning) (m : Meaning) (rest : List Meaning) (e : lines ≡ before ++ m ∷ rest) (clean : IsClean (SecondFinds bytes) (length before + 1)) where
     abbrev at : ℕ
     at = text_address (place_of before)

@@ -1,10 +1,10 @@
--- Holes that lie apart, cut into a front and the rest.
+-- Holes that lie apart, cut into a prefix and the rest.
 use Rattle.std.proofs.Common.{ℕ, zero, suc, ◌+◌, ◌<◌, ◌≤◌, ◌⊎◌, inl, inr, List, [], ◌∷◌, ◌++◌, length, arith}
 use Rattle.std.proofs.lemmas.Bool.{cases_lt}
 use Rattle.guest_heap.specs.declared.holes.Hole.{Hole}
 use Rattle.guest_heap.specs.Holes.{IsApart, In, AllIn, start_of, end_of, room}
 
--- where the holes after a front may begin
+-- where the holes after a prefix may begin
 abbrev pub after : ℕ → List Hole → ℕ
 after from [] = from
 after from (hole ∷ holes) = after (hole.end + 1) holes
@@ -45,7 +45,7 @@ in_above from [] unit apart no_one = elim no_one [ ]
 in_above from (hole ∷ holes) unit apart (inl here) = omega (arith, apart.0, here.0)
 in_above from (hole ∷ holes) unit apart (inr later) = omega (arith, apart.0, apart.1, in_above (hole.end + 1) holes unit apart.2 later)
 
--- a front lies before what may come after it
+-- a prefix lies before what may come after it
 pub in_below : (from : ℕ) (holes : List Hole) (unit : ℕ) → IsApart from holes → In holes unit → unit < after from holes
 in_below from [] unit apart no_one = elim no_one [ ]
 in_below from (hole ∷ holes) unit apart (inr later) = in_below (hole.end + 1) holes unit apart.2 later
@@ -55,7 +55,7 @@ in_below from (hole ∷ holes) unit apart (inl here) = omega (arith, here.1, aft
     after_grows from [] apart = omega arith
     after_grows from (hole ∷ holes) apart = omega (arith, apart.0, apart.1, after_grows (hole.end + 1) holes apart.2)
 
--- where each hole of a front ends below a unit, the rest may begin there
+-- where each hole of a prefix ends below a unit, the rest may begin there
 pub after_below : (from unit : ℕ) (holes : List Hole) → from ≤ unit → ((k : ℕ) → k < length holes → end_of holes k < unit) → after from holes ≤ unit
 after_below from unit [] below ends = below
 after_below from unit (hole ∷ holes) below ends = after_below (hole.end + 1) unit holes (omega (arith, ends 0 (omega arith))) (λ k within. ends (suc k) (omega arith))

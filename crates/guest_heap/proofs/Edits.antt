@@ -1,4 +1,4 @@
--- The edits of the list of holes, each seen as a front, one hole and the rest.
+-- The edits of the list of holes, each seen as a prefix, one hole and the rest.
 use Rattle.std.proofs.Common.{◌≡◌, ℕ, zero, suc, ◌+◌, ◌-◌, ◌<◌, ◌≤◌, ◌⊎◌, inl, inr, List, [], ◌∷◌, ◌++◌, length, get_or, set, take, drop, insert, remove, arith, sym, ap, ◌∙◌, subst}
 use Rattle.std.proofs.lemmas.Bool.{cases_lt}
 use Rattle.std.proofs.lemmas.List.{take-append-drop, drop_more, set_split, take_more_set, drop-set-lt, append_assoc, length-take-le, get_or-take, get_or_default, drop_all}
@@ -6,7 +6,7 @@ use Rattle.guest_heap.specs.declared.holes.Hole.{Hole}
 use Rattle.guest_heap.specs.Holes.{IsApart, In, AllIn, Loses, Gains, start_of, end_of, room}
 use Rattle.guest_heap.proofs.Apart.{after, apart_front, apart_rest, apart_join, apart_lower, in_front, in_rest, in_split, in_above, in_below, after_below, starts_above, starts_rise, in_one}
 
--- the front of a hole is taken, or the whole of it
+-- the start of a hole is taken, or the whole of it
 pub loses_front : (front rest : List Hole) (hole : Hole) (need : ℕ) → IsApart 0 (front ++ hole ∷ rest) → hole.start + need < hole.end →
     Loses (front ++ hole ∷ rest) (front ++ record { start = hole.start + need; end = hole.end } ∷ rest) hole.start need
 loses_front front rest hole need apart short =
@@ -73,7 +73,7 @@ gains_alone front rest start end apart below some above =
       added = λ unit from before. in_rest front (hole ∷ rest) unit (inl (from, before));
     }
 
--- units lengthen the hole before or behind them, or close the gap between two
+-- units lengthen the hole before or after them, or close the gap between two
 pub gains_joined : (front rest : List Hole) (hole joined : Hole) (start end : ℕ) → IsApart 0 (front ++ hole ∷ rest) → IsApart (after 0 front) (joined ∷ rest) →
     ((unit : ℕ) → hole.start ≤ unit → unit < hole.end → (joined.start ≤ unit) × (unit < joined.end)) →
     ((unit : ℕ) → start ≤ unit → unit < end → (joined.start ≤ unit) × (unit < joined.end)) →
@@ -138,7 +138,7 @@ set_remove_is holes i next hole within is =
 pub remove_is : (holes : List Hole) (i : ℕ) → remove holes i ≡ take i holes ++ drop (i + 1) holes
 remove_is holes i = let e : suc i ≡ i + 1 = omega arith in ap (λ n. take i holes ++ drop n holes) e
 
--- the front before a place, where each hole ends below a unit
+-- the prefix before a place, where each hole ends below a unit
 pub front_below : (holes : List Hole) (i unit : ℕ) → i ≤ length holes → ((k : ℕ) → k < i → end_of holes k < unit) → after 0 (take i holes) ≤ unit
 front_below holes i unit within ends =
     let long : length (take i holes) ≡ i = length-take-le i holes within in
@@ -260,7 +260,7 @@ touch holes i start end apart within some reaches reached none =
       | inr same ↦ omega arith
     ]
 
--- the hole behind it starts where they end, or behind
+-- the hole after it starts where they end, or after
 pub behind : (holes : List Hole) (i next start end : ℕ) → IsApart 0 holes → next ≡ i + 1 → next < length holes → end_of holes i ≡ start → start_of holes next ≤ end →
     ((unit : ℕ) → start ≤ unit → unit < end → In holes unit → ⊥) → start_of holes next ≡ end
 behind holes i next start end apart is within ends by none =
@@ -270,7 +270,7 @@ behind holes i next start end apart is within ends by none =
       | inr over ↦ omega arith
     ]
 
--- a hole's front, or the whole of it, is taken
+-- a hole's start, or the whole of it, is taken
 pub lose_whole : (holes : List Hole) (i need : ℕ) (hole : Hole) → IsApart 0 holes → i < length holes → hole ≡ get_or holes i hole → hole.end - hole.start ≡ need →
     Loses holes (remove holes i) hole.start need
 lose_whole holes i need hole apart within read same =

@@ -1,4 +1,4 @@
--- How holes and blocks tile the heap, as blocks are taken and given back.
+-- How holes and blocks tile the heap, as blocks are taken and freed.
 use Rattle.std.proofs.Common.{◌≡◌, ◌≢◌, ℕ, ◌+◌, ◌-◌, ◌*◌, ◌/◌, ◌<◌, ◌≤◌, ◌⊎◌, inl, inr, List, [], ◌∷◌, length, get_or, set, replicate, arith, sym, ap, ◌∙◌, subst}
 use Rattle.std.proofs.lemmas.Bool.{cases_lt, cases_eq}
 use Rattle.std.proofs.lemmas.List.{length-set, length-replicate, get_or-set_same, get_or-set_other}
@@ -95,7 +95,7 @@ tiled_take sizes holes new start size need was is some all loses =
           ])) out;
     }
 
--- after a live block was given back
+-- after a live block was freed
 pub tiled_give : (sizes : List ℕ) (holes new : List Hole) (start end : ℕ) → IsTiled sizes holes → 0 < get_or sizes start 0 → end ≡ start + units (get_or sizes start 0) →
     Gains holes new start end → IsTiled (set sizes start 0) new
 tiled_give sizes holes new start end was live is gains =

@@ -77,18 +77,18 @@ after_write old new at (suc n) buffer holds long memory_is heap_is input_is outp
     (output_is ∙ ap (λ (xs : List ℕ). old.output ++ xs) (sym sent))
     ∙ ap (after (state_of old)) (sym (moved_some (suc n) (Wr at (suc n)) (omega arith)))
 
--- what is behind the first of a list
+-- what follows the first of a list
 pub behind : (n : ℕ) (xs : List ℕ) → take (length xs - n) (drop n xs) ≡ drop n xs
 behind n xs = rw (← length-drop n xs) (take-length (drop n xs))
 
--- the bytes of a list that stands in memory are mapped
+-- the bytes of a list that is in memory are mapped
 pub mapped_of_list : (memory : List (Option PageImage)) (at count : ℕ) (list : List ℕ) → HoldsAt memory at count list → AllMapped (bytes memory) at count
 mapped_of_list memory at count list holds = λ k from within.
     let place : at + (k - at) ≡ k = omega arith in
     let held : bytes memory k ≡ Some (get_or list (k - at) 0) = ap (bytes memory) (sym place) ∙ holds.each (k - at) (omega arith) in
     subst IsSome (sym held) refl
 
--- a list with room behind it, after bytes were read into the room
+-- a list with room after it, after bytes were read into the room
 pub appended : (old room into post tail more : List ℕ) (before count len : ℕ) → before ≡ length old → room ≡ take (before + count) old ++ more → post ≡ [] →
     length into ≡ count → len ≡ before + count → take len (take before room ++ (into ++ post) ++ tail) ≡ old ++ into
 appended old room into post tail more before count len front_is room_is none long len_is =

@@ -17,7 +17,7 @@ pub record NamesFirst (log : Log) (earlier later : Point) : Type 0 where
   pub first : a.hart ≡ earlier.hart
   pub second : b.hart ≡ later.hart
 
--- the log is given back, and where it is unordered the first such pair is named
+-- the log is returned, and where it is unordered the first such pair is named
 abbrev pub IsRefused : Log → CheckRefused → Type 0
 IsRefused log (refused.Unordered earlier later given) = (given ≡ log) × NamesFirst log earlier later
 IsRefused log (refused.NoMemory given) = given ≡ log

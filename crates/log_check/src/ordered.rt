@@ -25,7 +25,7 @@ impl OrderedLog {
     }
 }
 
-/// Why a log was not found to be ordered. The log is given back.
+/// Why a log was not found to be ordered. The log is returned.
 #[derive(Drop)]
 pub enum CheckRefused {
     /// The two records are the first pair that conflicts and is not ordered.

@@ -26,7 +26,7 @@ line_at {x} {y} e = some-injective x y e
 same_event : {a b : Event} → entry.Event a ≡ entry.Event b → a ≡ b
 same_event e = cc
 
--- an event stands at one position
+-- an event is at one position
 pub one_event : (g : List Line) (i j m : ℕ) (a b : Event) → a.hart ≡ b.hart → IsEvent g i m a → IsEvent g j m b → (i ≡ j) × (a ≡ b)
 one_event g i j m a b hart x y =
     let t = one_place g b.hart m i j x.0 y.0 (subst (λ (z : ℕ). IsRecord g i z m x.0) hart x.1) y.1 in

@@ -1,4 +1,4 @@
--- Arcs as they are added, one behind the other.
+-- Arcs as they are added, one after the other.
 use Rattle.std.proofs.Common.{◌≡◌, ℕ, zero, suc, ◌+◌, ◌<◌, ◌≤◌, max, ◌&&◌, ◌||◌, Bool, true, false, leb, ltb, List, [], ◌∷◌, ◌++◌, length, get_or, set, drop, Option, Some, None, fold, inl, inr, refl, sym, ap, ◌∙◌, arith}
 use Rattle.std.proofs.Math.Bool.{and_assoc, and-true, or_assoc, or-false}
 use Rattle.std.proofs.lemmas.Bool.{and_parts, and_from, and_right, or_cases, or_left, or_right, leb-true, le-leb, lt-leb, lt-ltb, le-ltb, cases_lt, cases_Bool}
@@ -40,7 +40,7 @@ points_from_none base [] none = refl
 points_from_none base (zero ∷ numbers) none = points_from_none (suc base) numbers (λ k. none (suc k))
 points_from_none base (suc n ∷ numbers) none = absurd (omega (arith, none zero))
 
--- a number is set behind which none is
+-- a number is set after which none is
 points_from-set : (base k number : ℕ) (numbers : List ℕ) (point : Point) → k < length numbers → ((j : ℕ) → k ≤ j → get_or numbers j 0 ≡ 0) →
     point.hart ≡ base + k → point.number ≡ suc number →
     points_from base (arcs_in (set numbers k (suc number))) ≡ points_from base (arcs_in numbers) ++ point ∷ []

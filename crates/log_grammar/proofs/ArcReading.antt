@@ -51,7 +51,7 @@ same_first x y a b e = cc
 not_comma : (a b : List ℕ) → 44 ∷ a ≡ 10 ∷ b → ⊥
 not_comma a b e = omega (arith, same_first 44 10 a b e)
 
--- the points behind one that was read
+-- the points after one that was read
 behind_read : (behind : List ℕ) (p : Point) (r : Bor (List ℕ)) → ReadsPoint behind (Some (p, r)) → (others : List Point) (after : List ℕ) → ArePointsInForm most_read others → 44 ∷ behind ≡ behind_commas others (10 ∷ after)
     → Agrees (p ∷ []) others r.now after
 behind_read behind p r reads [] after form e = absurd (not_comma behind after e)
@@ -97,7 +97,7 @@ more_points text rest behind p r list new far comma reads add = record {
   only = λ others after form e. agrees-more text rest behind far.points p r comma reads others after (far.only others after form e);
 }
 
--- no point behind the comma
+-- no point after the comma
 pub none_behind : (text rest behind : List ℕ) (list : ArcList) → IsSoFar text list rest → rest ≡ 44 ∷ behind → ReadsPoint behind None → (others : List Point) (after : List ℕ) → ArePointsInForm most_read others
     → 44 ∷ text ≡ behind_commas others (10 ∷ after) → ⊥
 none_behind text rest behind list far comma reads others after form e =
@@ -131,7 +131,7 @@ if_none {X} result P e h = let F : Option X → Type 0 = λ r. IfNone r P in sub
 pub not_there : {X : Type 0} (result : Option X) (P : X → Type 0) → result ≡ None → IsSomeAnd result P → ⊥
 not_there {X} result P e h = let F : Option X → Type 0 = λ r. IsSomeAnd r P in subst F e h
 
--- the arcs of a line, behind a blank, a sign and a blank
+-- the arcs of a line, after a blank, a sign and a blank
 pub commas_are : (points : List Point) (point : Point) (after : List ℕ) → 44 ∷ (join_with_byte 44 (map point_word (point ∷ points)) ++ after) ≡ behind_commas (point ∷ points) after
 commas_are [] point after = refl
 commas_are (next ∷ points) point after =
@@ -156,7 +156,7 @@ pub ends_nowhere : (what : Record) (bytes : List ℕ) → ((after : List ℕ) �
 ends_nowhere what bytes feed sign [] after form may e = feed after e
 ends_nowhere what bytes feed sign (point ∷ points) after form may e = sign (list_text (point ∷ points) ++ (10 ∷ after)) (e ∙ arcs_are points point (10 ∷ after))
 
--- the list behind the sign, for the points of a line
+-- the list after the sign, for the points of a line
 pub behind_sign : (bytes rest : List ℕ) (points : List Point) (point : Point) (after : List ℕ) → bytes ≡ codes " < " ++ rest → bytes ≡ behind_blanks (arc_words (point ∷ points)) (10 ∷ after) → 44 ∷ rest ≡ behind_commas (point ∷ points) (10 ∷ after)
 behind_sign bytes rest points point after sign e =
     let both : codes " < " ++ rest ≡ codes " < " ++ (list_text (point ∷ points) ++ (10 ∷ after)) = sym sign ∙ e ∙ arcs_are points point (10 ∷ after) in

@@ -54,7 +54,7 @@ pub same_behind : (front a b : List ℕ) → front ++ a ≡ front ++ b → a ≡
 same_behind [] a b e = e
 same_behind (x ∷ front) a b e = same_behind front a b (let tail : front ++ a ≡ front ++ b = cc in tail)
 
--- a reader behind one certain word at the front of a line
+-- a reader after one certain word at the start of a line
 pub word_none : {X : Type 0} (In : X → Type 0) (words : X → List (List ℕ)) (word rest text : List ℕ) → text ≡ word ++ rest → Reads In words rest None → Reads In (λ x. word ∷ words x) (32 ∷ text) None
 word_none In words word rest text e reads = record {
   found = tt;

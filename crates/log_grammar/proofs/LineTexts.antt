@@ -47,7 +47,7 @@ pub no_record : (bytes : List ℕ) → Reads (IsRecordInForm most_read) record_w
 no_record bytes reads = λ what points after form e.
     reads.every what (behind_blanks (arc_words points) (10 ∷ after)) form.0 (closes_arcs points after) (row_there bytes what points after e)
 
--- another row that begins the bytes has the same record, and its arcs behind it
+-- another row that begins the bytes has the same record, and its arcs after it
 same_record : (bytes : List ℕ) (what : Record) (r : Bor (List ℕ)) → Reads (IsRecordInForm most_read) record_words (32 ∷ bytes) (Some (what, r))
     → (other : Record) (points : List Point) (after : List ℕ) → IsInForm most_read (row other points) → bytes ≡ line_text (entry_text (row other points)) ++ after
     → (what ≡ other) × (r.now ≡ behind_blanks (arc_words points) (10 ∷ after))
@@ -156,7 +156,7 @@ not_second bytes behind front none = with_size bytes Never
     (λ harts rest some few e. apart (decimal harts ++ (codes " block 16\n" ++ rest)) behind (sym e ∙ front))
     (λ harts rest some few e. none harts rest some few (same_behind second_front behind (decimal harts ++ (codes " block 4\n" ++ rest)) (sym front ∙ e)))
 
--- what is read behind the front, and the word behind that
+-- what is read after the prefix, and the word after that
 pub no_harts : (behind word : List ℕ) → ((rest : List ℕ) → Closes (word ++ rest)) → ReadsHarts behind None → (harts : ℕ) (rest : List ℕ) → 1 ≤ harts → harts ≤ 8 → behind ≡ decimal harts ++ (word ++ rest) → ⊥
 no_harts behind word closes reads harts rest some few e = reads.every harts (word ++ rest) some few (closes rest) e
 

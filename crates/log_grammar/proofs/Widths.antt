@@ -21,7 +21,7 @@ pub marked_by : (found : Option (Bor (List ℕ))) (unsigned : Bool) (left : List
 marked_by None unsigned left is there every = record { there = λ yes. absurd (let both = sym is ∙ yes in cc); missing = λ _ behind e. every behind e }
 marked_by (Some r) unsigned left is there every = record { there = λ _. (r.now, there); missing = λ no. absurd (let both = sym is ∙ no in cc) }
 
--- what stands behind the mark, or behind the letter
+-- what follows the mark, or after the letter
 pub record Counts (unsigned : Bool) (n : ℕ) : Type 0 where
   pub one : unsigned ≡ true → n ≡ 1
   pub none : unsigned ≡ false → n ≡ 0
@@ -59,7 +59,7 @@ with_mark : (first letter : ℕ) (unsigned : Bool) (left rest : List ℕ) → Ma
 with_mark first letter true left rest marked e = (ap (λ (x : ℕ). x ∷ 117 ∷ []) (same_first first letter (117 ∷ rest) left e), let tail : left ≡ 117 ∷ rest = cc in tail)
 with_mark first letter false left rest marked e = absurd (marked.missing refl rest (let tail : left ≡ 117 ∷ rest = cc in tail))
 
--- where the word of a width stands, it is the letter and the mark
+-- where the word of a width is, it is the letter and the mark
 pub parted : (width : LoadWidth) (letter : ℕ) (unsigned : Bool) (left rest : List ℕ) → Marked unsigned left → Closes rest → load_word width ++ rest ≡ letter ∷ left
     → (load_word width ≡ letter ∷ mark unsigned) × (left ≡ mark unsigned ++ rest)
 parted load.B letter unsigned left rest marked closes e = bare 98 letter unsigned left rest marked closes e

@@ -1,4 +1,4 @@
--- What a text begins with, when it is read from the front.
+-- What a text begins with, when it is read from the start.
 use Rattle.std.specs.Prelude.{◌≡◌, ℕ, ◌≤◌, Bool, List, ◌∷◌, ◌++◌}
 use Rattle.pl_event.specs.declared.log.Point.{Point}
 use Rattle.pl_event.specs.declared.log.Record.{Record}
@@ -10,7 +10,7 @@ use Rattle.log_grammar.specs.Form.{IsInForm, ArePointsInForm, MayHave, most_read
 use Rattle.log_grammar.specs.Reads.{behind_blanks}
 use Rattle.pl_event.specs.Runs.{IsBlockSize}
 
--- the bytes begin with this line in form and its line feed, and with no other
+-- the bytes begin with this well-formed line and its line feed, and with no other
 pub record Begins (bytes : List ℕ) (e : Entry) (rest : List ℕ) : Type 0 where
   pub in_form : IsInForm most_read e
   pub spelled : bytes ≡ line_text (entry_text e) ++ rest
@@ -32,7 +32,7 @@ abbrev pub BeginsWithNoPage : List ℕ → Type 0
 BeginsWithNoPage bytes = (run : PageRun) (after : List ℕ) → IsInForm most_read (page run) →
     bytes ≡ line_text (entry_text (page run)) ++ after → ⊥
 
--- the bytes are the arcs of the list in form, which the record may have, if there are
+-- the bytes are the well-formed arcs of the list, which the record may have, if there are
 -- some, and a line feed, and no others
 pub record EndsWithArcs (what : Record) (bytes : List ℕ) (has_arcs : Bool) (list : ArcList) (rest : List ℕ) :
     Type 0 where

@@ -1,4 +1,4 @@
--- Which lines are in form: each field is in its range, whatever stands before it.
+-- Which lines are well-formed: each field is in its range, whatever comes before it.
 use Rattle.std.specs.Prelude.{◌≡◌, ℕ, ◌^◌, ◌<◌, ◌≤◌, List, []}
 use Rattle.std.specs.List.{AllByRecursion}
 use Rattle.pl_base.specs.declared.layout.TheConstants.{MAX_CALL_BYTES, MAX_MAPPED_PAGES, MAX_RECORDS, MEMORY_BYTES}

@@ -1,4 +1,4 @@
--- What a reader of the words at the front of a text gives.
+-- What a reader of the words at the start of a text gives.
 use Rattle.std.specs.Prelude.{◌≡◌, ℕ, ◌<◌, ◌≤◌, List, [], ◌∷◌, ◌++◌, length, take, drop, Option, IfSome, IsSomeAnd}
 use Rattle.std.specs.Borrow.{Bor}
 use Rattle.std.specs.Fmt.{decimal}
@@ -17,12 +17,12 @@ abbrev pub behind_blanks : List (List ℕ) → List ℕ → List ℕ
 behind_blanks [] rest = rest
 behind_blanks (word ∷ words) rest = 32 ∷ word ++ behind_blanks words rest
 
--- a word ends before a blank, a comma or a line feed, which all stand below the digits
+-- a word ends before a blank, a comma or a line feed, which are all below the digits
 abbrev pub Closes : List ℕ → Type 0
 Closes [] = ⊥
 Closes (byte ∷ rest) = byte < 48
 
--- the words that are given stand at the front, and where the words of a value in range stand, it is given
+-- the words that are given are at the start, and where the words of a value in range are, it is given
 pub record Reads {X : Type 0} (InRange : X → Type 0) (words : X → List (List ℕ)) (text : List ℕ)
     (result : Option (X × Bor (List ℕ))) : Type 0 where
   pub found : IfSome result (λ r. InRange r.0 × (text ≡ behind_blanks (words r.0) r.1.now))
@@ -60,7 +60,7 @@ AreThree r = IsRegister r.0 × IsRegister r.1 × IsRegister r.2
 abbrev pub three_words : ℕ × ℕ × ℕ → List (List ℕ)
 three_words r = decimal r.0 ∷ decimal r.1 ∷ decimal r.2 ∷ []
 
--- the words of a kind behind its first, and the kinds that have this first word
+-- the words of a kind after its first, and the kinds that have this first word
 abbrev pub operands : Kind → List (List ℕ)
 operands kind = drop 1 (kind_words kind)
 
@@ -78,13 +78,13 @@ abbrev pub behind_commas : List Point → List ℕ → List ℕ
 behind_commas [] rest = rest
 behind_commas (point ∷ points) rest = 44 ∷ point_word point ++ behind_commas points rest
 
--- the bytes begin with a point in form, and with no other where no digit carries it on
+-- the bytes begin with a well-formed point, and with no other where no digit carries it on
 pub record ReadsPoint (text : List ℕ) (result : Option (Point × Bor (List ℕ))) : Type 0 where
   pub found : IfSome result (λ r. IsPointInForm most_read r.0 × (text ≡ point_word r.0 ++ r.1.now))
   pub every : (point : Point) (rest : List ℕ) → IsPointInForm most_read point → Closes rest →
       text ≡ point_word point ++ rest → IsSomeAnd result (λ r. (r.0 ≡ point) × (r.1.now ≡ rest))
 
--- the bytes are a comma away from these points in form, and from no others that a line feed ends
+-- the bytes are a comma away from these well-formed points, and from no others that a line feed ends
 pub record IsArcList (text : List ℕ) (list : ArcList) (rest : List ℕ) : Type 0 where
   pub points : List Point
   pub some : 0 < length points

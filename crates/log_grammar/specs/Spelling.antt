@@ -73,12 +73,12 @@ abbrev pub record_words : Record → List (List ℕ)
 record_words (entry.Event event) = (104 ∷ decimal event.hart) ∷ kind_words event.kind
 record_words (entry.Notice hart point) = (104 ∷ decimal hart) ∷ codes "!" ∷ point_word point ∷ []
 
--- the arcs of a record, behind it
+-- the arcs of a record, after it
 abbrev pub arc_words : List Point → List (List ℕ)
 arc_words [] = []
 arc_words (point ∷ points) = codes "<" ∷ join_with_byte 44 (map point_word (point ∷ points)) ∷ []
 
--- a line behind the header
+-- a line after the header
 pub data Entry : Type 0 where
   page : PageRun → Entry
   row : Record → List Point → Entry
@@ -87,7 +87,7 @@ abbrev pub entry_words : Entry → List (List ℕ)
 entry_words (page run) = codes "page" ∷ decimal run.first ∷ decimal run.count ∷ page_word run.kind ∷ []
 entry_words (row what points) = record_words what ++ arc_words points
 
--- words stand one blank apart
+-- words are one blank apart
 abbrev pub entry_text : Entry → List ℕ
 entry_text e = join_with_byte 32 (entry_words e)
 
@@ -115,7 +115,7 @@ points_from hart (Some number ∷ numbers) = record { hart = hart; number = numb
 abbrev pub row_of : Line → Entry
 row_of line = row line.what (points_from 0 line.arcs)
 
--- the lines of a log behind its header
+-- the lines of a log after its header
 abbrev pub entries_of : Log → List Entry
 entries_of log = map page log.pages ++ map row_of log.lines
 

@@ -16,7 +16,7 @@ use line::{page_run, record};
 use pl_event::{PageRun, Record};
 use pl_text::{after_byte, after_word, decimal_at};
 
-/// How many harts the header names that the bytes begin with, its size of blocks, and what stands behind its line feed.
+/// How many harts the header names that the bytes begin with, its size of blocks, and what follows its line feed.
 pub fn header_at(bytes: &[u8]) -> Option<(u8, u8, &[u8])>
     ensures found { IfSome result (λ r. BeginsWithHeader bytes.now r.0 r.1 r.2.now) }
     ensures missed { IfNone result (BeginsWithNoHeader bytes.now) }
@@ -43,8 +43,8 @@ fn harts_at(text: &[u8]) -> Option<(u8, &[u8])>
     Some((harts as u8, rest))
 }
 
-/// The record of the line in form that the bytes begin with, whether it has arcs, which are put into the list, and what
-/// stands behind the line feed.
+/// The record of the well-formed line that the bytes begin with, whether it has arcs, which are put into the list, and
+/// what follows the line feed.
 #[inline(always)]
 pub fn row_at<'a>(bytes: &'a [u8], list: &mut ArcList) -> Option<(Record, bool, &'a [u8])>
     ensures found { IfSome result (λ r. BeginsWithRow bytes.now r.0 r.1 list.new r.2.now) }
@@ -57,7 +57,7 @@ pub fn row_at<'a>(bytes: &'a [u8], list: &mut ArcList) -> Option<(Record, bool, 
     Some((what, has_arcs, rest))
 }
 
-/// The line of a run of pages in form that the bytes begin with, and what stands behind its line feed.
+/// The line of a well-formed run of pages that the bytes begin with, and what follows its line feed.
 pub fn page_at(bytes: &[u8]) -> Option<(PageRun, &[u8])>
     ensures found { IfSome result (λ r. Begins bytes.now (page r.0) r.1.now) }
     ensures missed { IfNone result (BeginsWithNoPage bytes.now) }

@@ -46,7 +46,7 @@ impl ArcList {
         arcs
     }
 
-    /// One more arc behind those so far.
+    /// One more arc after those so far.
     #[inline]
     pub fn add(&mut self, point: Point)
         requires hart { point.hart ≤ 9 }

@@ -3,7 +3,7 @@
 //! The opening words are those of the log's pages, and the operations of a record are filled from the words that the
 //! records before it leave. Two operations of different harts that clash have a path between their records: those of a
 //! load or a store on one block by the order of the log, those of an alert event by its notices. Where a frame served
-//! two pages, an alert event stands between the two records, and the path leads over it.
+//! two pages, an alert event is between the two records, and the path leads over it.
 #![tactic(auto)]
 
 mod laws;

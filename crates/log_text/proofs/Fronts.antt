@@ -1,4 +1,4 @@
--- What begins the front of a text begins the text, where the front holds the next line whole.
+-- What begins the prefix of a text begins the text, where the prefix holds the next line whole.
 use Rattle.std.proofs.Common.{◌≡◌, ℕ, ◌-◌, List, [], ◌∷◌, ◌++◌, length, drop, sym, ap, ◌∙◌, arith}
 use Rattle.std.proofs.Math.Seq.{drop-append_seam}
 use Rattle.std.proofs.lemmas.List.{append_assoc, append-nil, length-append}
@@ -14,7 +14,7 @@ feed line rest = append_assoc line (10 ∷ []) rest
 longer : (text later line after : List ℕ) → text ≡ line_text line ++ after → text ++ later ≡ line_text line ++ (after ++ later)
 longer text later line after e = ap (λ (t : List ℕ). t ++ later) e ∙ append_assoc (line_text line) after later
 
--- another line that begins the longer text is the one that begins its front
+-- another line that begins the longer text is the one that begins its prefix
 same_front : (text later line other after rest : List ℕ) → IsOneLine line → IsOneLine other → text ≡ line_text line ++ after → text ++ later ≡ line_text other ++ rest → (text ≡ line_text other ++ after) × (rest ≡ after ++ later)
 same_front text later line other after rest first second e f =
     let h = same_line line other (after ++ later) rest first second (sym (feed line (after ++ later)) ∙ sym (longer text later line after e) ∙ f ∙ feed other rest) in
@@ -41,7 +41,7 @@ header_longer text later after harts block header = record {
       (only.0, only.1, same.1);
 }
 
--- a line that begins the longer text stands in the front
+-- a line that begins the longer text is in the prefix
 line_front : (text later line rest : List ℕ) → IsOneLine line → HoldsLine text later → text ++ later ≡ line_text line ++ rest → (after : List ℕ) × (text ≡ line_text line ++ after)
 line_front text later line rest one (whole_lines some ends) e =
     let h = line_within text later line rest one some ends (e ∙ feed line rest) in
@@ -63,7 +63,7 @@ no_header_longer text later holds none = λ harts block rest some few size e.
     let h = line_front text later (header_text harts block) rest (one_header harts block) holds e in
     none harts block h.0 some few size h.1
 
--- what stands behind a line
+-- what follows a line
 pub behind : (text line after : List ℕ) → text ≡ line ++ after → drop (length text - length after) text ≡ after
 behind text line after e =
     let n : length text - length after ≡ length line = omega (arith, ap length e, length-append line after) in

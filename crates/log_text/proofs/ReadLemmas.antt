@@ -66,7 +66,7 @@ spelled-push head bytes rest after before entries e spelled begins is =
     ∙ ap (λ (t : List ℕ). head ++ t) (texts-push before e after ∙ ap (λ (es : List Entry). entries_text es ++ after) (sym is))
     ∙ sym (append_assoc head (entries_text entries) after)
 
--- behind the header
+-- after the header
 abbrev pub bare : ℕ → ℕ → Log
 bare harts block = record { harts = harts; block = block; pages = []; lines = [] }
 
@@ -83,7 +83,7 @@ read-none bytes rest harts block header = record {
       record { same = same.0; size = same.1; tail = entries_of other; parted = refl; left = sym same.2 };
 }
 
--- the rest of another log of the bytes, behind one more line
+-- the rest of another log of the bytes, after one more line
 pub alike-push : (harts block : ℕ) (before : List Entry) (rest after : List ℕ) (e : Entry) (other : Log) → IsWellFormed other → Begins rest e after → IsAlike harts block before rest other → IsAlike harts block (before ++ e ∷ []) after other
 alike-push harts block before rest after e other formed begins alike = alike-tail alike.tail alike.parted alike.left
   where
@@ -197,7 +197,7 @@ next_line bytes rest log other P read text some next = at alike.tail alike.parte
     at [] parted left = absurd (omega (arith, some, ap length left))
     at (t ∷ tail) parted left = next t (entries_text tail) left (subst (λ (h : ℕ). ContinuesRead h (entries_of log) t) alike.same (text.formed.lawful (entries_of log) tail t parted))
 
--- no line in form
+-- no well-formed line
 pub fault-none : (bytes rest : List ℕ) (log : Log) (line : ℕ) → IsRead bytes rest log → line ≡ length (entries_of log) + 2 → 0 < length rest → BeginsWithNoRow rest → BeginsWithNoPage rest → IsNoLog bytes (fault_of line cause.Form)
 fault-none bytes rest log line read at some no_row no_page = record {
   first = inr (line_fault bytes rest log line cause.Form read at (no_line some nothing));

@@ -35,11 +35,11 @@ passed reader tally list = record { tally = tally; arcs = list; line = (reader.l
 next_number : (line count : ℕ) → line ≡ count + 2 → count < 2 ^ 31 → (line + 1) % 2 ^ 32 ≡ (count + 1) + 2
 next_number line count e few = omega (arith, e, few)
 
--- what is left of a text behind a line
+-- what is left of a text after a line
 abbrev pub left : List ℕ → List ℕ → List ℕ
 left text after = drop (length text - length after) text
 
--- so few lines stand before the text that they can be counted
+-- so few lines come before the text that they can be counted
 few_before : (reader : LogReader) (bytes text later : List ℕ) (log : Log) → HoldsNext bytes text later → IsReadBy reader bytes (text ++ later) log → length (entries_of log) < 2 ^ 31
 few_before reader bytes text later log next by = omega (arith, next.few, few_lines bytes (text ++ later) log by.read, length-append text later)
 
@@ -146,13 +146,13 @@ end_clean reader bytes text later log next has empty closed = read-only bytes (t
 pub end_open : (reader : LogReader) (bytes text later : List ℕ) (log : Log) → HoldsNext bytes text later → HasRead reader bytes (text ++ later) log → text ≡ [] → has_pending (entries_of log) ≡ true → IsNoLog bytes (record { line = reader.line; cause = cause.Open })
 end_open reader bytes text later log next has empty pending = fault-open bytes (text ++ later) log reader.line has.by.read has.by.line (at_end bytes text later next empty) pending
 
--- no line in form
+-- no well-formed line
 pub end_formless : (reader : LogReader) (bytes text later : List ℕ) (log : Log) → HoldsNext bytes text later → HasRead reader bytes (text ++ later) log → 0 < length text → BeginsWithNoRow text → BeginsWithNoPage text
     → IsNoLog bytes (record { line = reader.line; cause = cause.Form })
 end_formless reader bytes text later log next has some no_row no_page =
     fault-none bytes (text ++ later) log reader.line has.by.read has.by.line (omega (arith, some, length-append text later)) (no_row_longer text later next.line no_row) (no_page_longer text later next.line no_page)
 
--- a run of pages behind a record
+-- a run of pages after a record
 page_misplaced : (harts : ℕ) (before : List Entry) (run : PageRun) → list_any is_row before ≡ true → broken harts before (page run) ≡ Some cause.Page
 page_misplaced harts before run some = rw some refl
 
@@ -199,7 +199,7 @@ paged log pages = record log { pages = pages }
 pub same_pages : (log : Log) (pages : List PageRun) → log.pages ≡ pages → log ≡ paged log pages
 same_pages log pages e = ap (λ (p : List PageRun). record log { pages = p }) e
 
--- behind the header
+-- after the header
 pub by_header : (text later rest : List ℕ) (harts block : ℕ) (tally : Tally) (list : ArcList) → BeginsWithHeader text harts block rest → Keeps tally [] → tally.harts ≡ harts
     → IsReadBy (record { tally = tally; arcs = list; line = 2; refused = None }) (text ++ later) (left text rest ++ later) (bare harts block)
 by_header text later rest harts block tally list header keeps same =
@@ -218,11 +218,11 @@ lined log lines = record log { lines = lines }
 pub same_lines : (log : Log) (lines : List Line) → log.lines ≡ lines → log ≡ lined log lines
 same_lines log lines e = ap (λ (l : List Line). record log { lines = l }) e
 
--- nothing is to come behind a text that is the last
+-- nothing is to come after a text that is the last
 pub next_last : (bytes text : List ℕ) → length bytes < 2 ^ 31 → HoldsNext bytes text []
 next_last bytes text few = record { line = last_bytes refl; few = omega (arith, few) }
 
--- a fault of bytes behind which nothing is to come is one of the bytes
+-- a fault of bytes after which nothing is to come is one of the bytes
 pub first_fault : (S T : Type 0) (why : LogRefused) (bytes : List ℕ) → IfFault {T = S} (Err why) (IsNoLog (bytes ++ [])) → IfFault {T = T} (Err why) (IsFirstFault bytes)
 first_fault S T refused.NoMemory bytes h = tt
 first_fault S T (refused.Fault fault) bytes h = let here : IsNoLog bytes fault = subst (λ (b : List ℕ). IsNoLog b fault) (append-nil bytes) h in here.first

@@ -30,7 +30,7 @@ none_found : {X : Type 0} (b : Bool) (x : X) (o : Option X) → cond b (Some x) 
 none_found true x o e = absurd cc
 none_found false x o e = (refl, e)
 
--- what a record that may stand here keeps
+-- what a record that may come here keeps
 pub record RowKeeps (harts : ℕ) (before : List Entry) (what : Record) (points : List Point) : Type 0 where
   pub records : breaks_records before ≡ false
   pub hart : breaks_hart harts what points ≡ false
@@ -120,7 +120,7 @@ ContinuesRead harts before e = Continues rules_in_order most_read harts before e
 abbrev IsLawfulRead : ℕ → List Entry → Type 0
 IsLawfulRead harts entries = IsLawful rules_in_order most_read harts entries
 
--- a page line that may stand here ends by the last page
+-- a page line that may come here ends by the last page
 page_inside : (harts : ℕ) (before : List Entry) (run : PageRun) → ContinuesRead harts before (page run) → run.first + run.count ≤ 4096
 page_inside harts before run continues =
     let breaks_none = (none_found (breaks_page before run) Page _ continues.breaks_none).0 in

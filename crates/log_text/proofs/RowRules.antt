@@ -94,7 +94,7 @@ fields_in_form (Wr addr len) valid = (valid.0, valid.1, valid.2)
 fields_in_form Ex valid = tt
 fields_in_form (Ft cause addr) valid = valid
 
--- the fields of a kind in form that breaks no rule are in their ranges
+-- the fields of a well-formed kind that breaks no rule are in their ranges
 pub valid_kind : (before : List Entry) (kind : Kind) → HasFormFields kind → is_misaligned kind ≡ false → passes_end kind ≡ false → is_bad_map before kind ≡ false → HasValidFields kind
 valid_kind before (Ld width rd rb addr) form straight ends maps = (form.0, form.1, (form.2, eqb-true (addr % load_bytes width) 0 (not-false _ straight)))
 valid_kind before (St width rv rb addr) form straight ends maps = (form.0, form.1, (form.2, eqb-true (addr % store_bytes width) 0 (not-false _ straight)))

@@ -1,4 +1,4 @@
--- Lines have no line feed inside, so a line that begins a text stands in each front of it that holds a line whole.
+-- Lines have no line feed inside, so a line that begins a text is in each prefix of it that holds a line whole.
 use Rattle.std.proofs.Common.{◌≡◌, ℕ, zero, suc, ◌+◌, ◌/◌, ◌%◌, ◌<◌, Bool, true, false, cond, eqb, not, ◌&&◌, List, [], ◌∷◌, ◌++◌, codes, length, map, refl, sym, ap, ◌∙◌, arith, inl, inr}
 use Rattle.std.specs.Fmt.{decimal, digits, digits_onto, digit_glyph}
 use Rattle.std.specs.List.{join_with_byte, AllByRecursion}
@@ -176,7 +176,7 @@ same_line (byte ∷ a) (other ∷ b) x y first second e =
     let h = same_line a b x y (head_and byte a first).1 (head_and other b second).1 rest in
     (ap (λ (c : ℕ). c ∷ a) same ∙ ap (λ (t : List ℕ). other ∷ t) h.0, h.1)
 
--- a line that begins a text begins each front of it that ends a line
+-- a line that begins a text begins each prefix of it that ends a line
 pub line_within : (text later line rest : List ℕ) → IsOneLine line → 0 < length text → ends_line text ≡ true → text ++ later ≡ line ++ 10 ∷ rest → (after : List ℕ) × (text ≡ line ++ 10 ∷ after)
 line_within [] later line rest one some ends e = absurd (omega (arith, some))
 line_within (byte ∷ text) later [] rest one some ends e = let same : byte ≡ 10 = cc in (text, ap (λ (c : ℕ). c ∷ text) same)

@@ -19,7 +19,7 @@ use Rattle.log_text.specs.Reading.{with_line}
 use Rattle.log_text.specs.WellFormed.{breaks, Continues, IsWellFormed, IsWritable, rules_in_order, rules_of_any_length}
 use Rattle.log_text.specs.Writing.{arcs_text}
 
--- words behind others
+-- words after others
 join_behind : (word : List ℕ) (words : List (List ℕ)) (other : List ℕ) (others : List (List ℕ))
     → join_with_byte 32 (word ∷ (words ++ other ∷ others)) ≡ join_with_byte 32 (word ∷ words) ++ 32 ∷ join_with_byte 32 (other ∷ others)
 join_behind word [] other others = refl
@@ -27,7 +27,7 @@ join_behind word (next ∷ words) other others =
     ap (λ (t : List ℕ). word ++ 32 ∷ t) (join_behind next words other others)
     ∙ sym (append_assoc word (32 ∷ join_with_byte 32 (next ∷ words)) (32 ∷ join_with_byte 32 (other ∷ others)))
 
--- the arcs behind the first one stand behind commas
+-- the arcs after the first one follow commas
 points_joined : (point : Point) (points : List Point) → join_with_byte 44 (map point_word (point ∷ points)) ≡ point_word point ++ arcs_text false points
 points_joined point [] = sym (append-nil (point_word point))
 points_joined point (next ∷ points) = ap (λ (t : List ℕ). point_word point ++ 44 ∷ t) (points_joined next points)

@@ -51,17 +51,17 @@ pub record HasRead (reader : LogReader) (bytes rest : List ℕ) (log : Log) : Ty
   pub by : IsReadBy reader bytes rest log
   pub begun : list_any is_row (entries_of log) ≡ false → BeginsWithNoPage rest
 
--- the text holds the next line whole: a line feed ends the text, or nothing is to come behind it
+-- the text holds the next line whole: a line feed ends the text, or nothing is to come after it
 pub data HoldsLine (text later : List ℕ) : Type 0 where
   whole_lines : 0 < length text → ends_line text ≡ true → HoldsLine text later
   last_bytes : later ≡ [] → HoldsLine text later
 
--- and so few bytes stand before what is to come that their lines can be counted
+-- and so few bytes come before what is to come that their lines can be counted
 pub record HoldsNext (bytes text later : List ℕ) : Type 0 where
   pub line : HoldsLine text later
   pub few : length bytes < 2 ^ 31 + length later
 
--- the log of a header, with no line behind it yet
+-- the log of a header, with no line after it yet
 abbrev pub opened : Header → Log
 opened header = record { harts = header.harts; block = header.block; pages = []; lines = [] }
 

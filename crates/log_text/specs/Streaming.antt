@@ -16,7 +16,7 @@ use Rattle.log_text.specs.declared.stream.LogStream.{LogStream}
 use Rattle.log_text.specs.Parts.{IsValidLine}
 use Rattle.log_text.specs.Reading.{IsReadBy, HasRead, IsNoLog, line_of, with_line}
 
--- R holds of the bytes of the source and of those of them that stand behind the lines
+-- R holds of the bytes of the source and of those of them that come after the lines
 -- that were read, whatever is to come
 pub record Streams (limit : ℕ) (began now : Option (List ℕ)) (window : Window) (R : List ℕ → List ℕ → Type 0) :
     Type 0 where

@@ -109,7 +109,7 @@ breaks_page before run =
     list_any is_row before || nat_lt run.first (page_end before) || nat_lt PAGE_COUNT (run.first + run.count) || nat_lt
     MAX_MAPPED_PAGES (pages_mapped before + run.count)
 
--- 2,000,000 records stand before
+-- 2,000,000 records come before
 abbrev pub breaks_records : List Entry → Bool
 breaks_records before = nat_le MAX_RECORDS (count_by is_row before)
 
@@ -203,7 +203,7 @@ broken harts before e = find (breaks harts before e) rules_in_order
 
 -- Logs
 
--- a line in form may stand behind these
+-- a well-formed line may follow these
 pub record Continues (rules : List LogCause) (most harts : ℕ) (before : List Entry) (e : Entry) : Type 0 where
   pub in_form : IsInForm most e
   pub breaks_none : find (breaks harts before e) rules ≡ None
@@ -243,7 +243,7 @@ pub record IsHeaderFault (bytes : List ℕ) (fault : LogFault) : Type 0 where
   pub none : (harts block : ℕ) (rest : List ℕ) → 1 ≤ harts → harts ≤ 8 → IsBlockSize block →
       bytes ≡ line_text (header_text harts block) ++ rest → ⊥
 
--- why reading stops before the rest: no line in form begins it, the line that begins it breaks a rule, or it is the
+-- why reading stops before the rest: no well-formed line begins it, the line that begins it breaks a rule, or it is the
 -- end and the event of a notice has not come
 pub data Stops (harts : ℕ) (before : List Entry) (rest : List ℕ) : LogCause → Type 0 where
   no_line : 0 < length rest →
@@ -253,7 +253,7 @@ pub data Stops (harts : ℕ) (before : List Entry) (rest : List ℕ) : LogCause 
       rest ≡ line_text (entry_text e) ++ after → broken harts before e ≡ Some cause → Stops harts before rest cause
   bad_end : rest ≡ [] → has_pending before ≡ true → Stops harts before rest Open
 
--- the line behind a header and lawful lines
+-- the line after a header and lawful lines
 pub record IsLineFault (bytes : List ℕ) (fault : LogFault) : Type 0 where
   pub harts : ℕ
   pub block : ℕ

@@ -6,7 +6,7 @@ use Rattle.pl_event.specs.declared.log.PageRun.{PageRun}
 use Rattle.pl_event.specs.declared.log.Point.{Point}
 use Rattle.log_grammar.specs.Spelling.{point_word}
 
--- what stands before the first arc, and before each further one
+-- what comes before the first arc, and before each further one
 abbrev pub arc_front : Bool → List ℕ
 arc_front true = codes " < "
 arc_front false = codes ","

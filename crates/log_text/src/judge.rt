@@ -27,7 +27,7 @@ const MAX_MAPPED: u64 = MAX_MAPPED_PAGES as u64;
 
 const MEMORY: u64 = MEMORY_BYTES as u64;
 
-/// The first rule that a run of pages breaks behind the lines so far.
+/// The first rule that a run of pages breaks after the lines so far.
 pub fn judge_page(tally: &Tally, run: PageRun) -> Option<LogCause>
     ensures { (before : List Entry) → Keeps tally.now before → result ≡ broken tally.now.harts before (page run) }
 {
@@ -47,7 +47,7 @@ fn is_misplaced(tally: &Tally, run: PageRun) -> bool
     (tally.records != 0) | (first < tally.next_page) | (end > PAGE_COUNT) | (mapped > MAX_MAPPED)
 }
 
-/// The first rule that a record breaks behind the lines so far.
+/// The first rule that a record breaks after the lines so far.
 #[inline(always)]
 pub fn judge_row(tally: &Tally, what: Record, has_arcs: bool, list: &ArcList) -> Option<LogCause>
     ensures { (before : List Entry) (arcs : List Point) → Keeps tally.now before →
@@ -238,7 +238,7 @@ fn is_expected(tally: &Tally, hart: u8) -> bool
     number < tally.named[usize::from(hart % 8)] && some_names(&tally.notices, hart, number)
 }
 
-/// Whether one of the notices is of the record behind that number of the hart.
+/// Whether one of the notices is of the record after that number of the hart.
 fn some_names(notices: &[Option<Point>; 8], hart: u8, number: u32) -> bool
     ensures yes { result ≡ true → (own : ℕ) × (point : Point) × (own < 8) ×
         (slice_index_or notices.now own None ≡ Some point) × (point.hart ≡ hart) × (point.number ≡ number + 1) }

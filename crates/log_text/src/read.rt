@@ -53,7 +53,7 @@ fn read_opened(alloc: Global, header: Header, bytes: &[u8]) -> Result<Log, LogRe
     })
 }
 
-/// Reads the runs of pages that begin the text, and gives what stands behind them.
+/// Reads the runs of pages that begin the text, and gives what follows them.
 fn read_pages<'a>(
     reader: &mut LogReader,
     text: &'a [u8],

@@ -29,7 +29,7 @@ pub struct LogReader {
     refused: Option<LogFault>,
 }
 
-/// The header of a log, how many bytes it has, and the reader behind it.
+/// The header of a log, how many bytes it has, and the reader after it.
 #[derive(Drop)]
 pub struct Header {
     pub harts: u8,
@@ -202,7 +202,7 @@ impl LogReader {
         self.line = self.line.wrapping_add(1);
     }
 
-    /// What it means that no record line begins the text: the end, a run of pages behind a record, or no line.
+    /// What it means that no record line begins the text: the end, a run of pages after a record, or no line.
     fn finish(&self, text: &[u8]) -> Result<Option<Row>, LogFault>
         ensures none { IfFound result (λ _. ⊥) }
         ensures empty { IfMissed result (text.now ≡ []) }

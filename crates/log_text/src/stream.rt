@@ -71,7 +71,7 @@ pub struct LogStream {
     reader: LogReader,
 }
 
-/// The header and the pages of a log, and the stream behind them.
+/// The header and the pages of a log, and the stream after them.
 #[derive(Drop)]
 pub struct Opening {
     pub harts: u8,

@@ -1,4 +1,4 @@
-//! One more record behind the lines so far: judged, and counted among them where it breaks no rule.
+//! One more record after the lines so far: judged, and counted among them where it breaks no rule.
 //!
 //! Events and notices go ways of their own, on which what the record is has not to be asked again; notices are few.
 
@@ -15,7 +15,7 @@ use crate::tally::Tally;
 use log_grammar::ArcList;
 use pl_event::{Point, Record};
 
-/// The first rule that a record breaks behind the lines so far; where it breaks none, it is one of them from now on.
+/// The first rule that a record breaks after the lines so far; where it breaks none, it is one of them from now on.
 #[inline(always)]
 pub fn take_row(tally: &mut Tally, what: Record, has_arcs: bool, list: &ArcList) -> Option<LogCause>
     ensures judged { (before : List Entry) (points : List Point) → Keeps tally.old before →

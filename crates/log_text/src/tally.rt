@@ -7,7 +7,7 @@ use std::alloc::{AllocError, Global};
 #[derive(Drop)]
 pub struct Tally {
     pub harts: u8,
-    /// The page behind the last run of pages.
+    /// The page after the last run of pages.
     pub next_page: u32,
     /// Which pages are mapped.
     pub pages: PageSet,

@@ -217,7 +217,7 @@ fn write_arcs(out: &mut String, arcs: &Arcs) -> Result<(), AllocError>
     Ok(())
 }
 
-/// One arc, if it is set, behind what goes before the first one or before a further one. Tells whether the next arc is
+/// One arc, if it is set, after what goes before the first one or before a further one. Tells whether the next arc is
 /// still the first.
 fn write_arc(
     out: &mut String,

@@ -11,7 +11,7 @@ use Rattle.order_core.specs.declared.steps.Act.TheVariants.{See, Advertise, Perf
 use Rattle.order_core.specs.Core.{Core, opening_core, IsPassed, put}
 use Rattle.order_core.specs.Runs.{IsAllowed, Makes}
 
--- what was handed out to a hart: how many records its partial chunk has, how many each chunk in its ring has, front
+-- what was handed out to a hart: how many records its partial chunk has, how many each chunk in its ring has, oldest
 -- first, and how many it took
 pub record Feed : Type 0 where
   pub partial : ℕ
@@ -43,7 +43,7 @@ with_record x = record x { partial = x.partial + 1 }
 abbrev pub after_offer : Feed → Feed
 after_offer x = record x { partial = 0; ring = x.ring ++ (x.partial ∷ []) }
 
--- the front chunk is taken
+-- the oldest chunk is taken
 abbrev pub after_take : Feed → Feed
 after_take x = record x { ring = drop 1 x.ring; taken = x.taken + slice_index x.ring 0 }
 
@@ -89,7 +89,7 @@ module _ (c : Course) where
     pub room : length (f.feed h).ring < RING_CHUNKS
     pub due : IsFullChunk (f.feed h) ⊎ (IsAllProduced f ⊎ IsHeldUp f)
 
-  -- hart h may take the front chunk of its ring: it has passed all the records that it took
+  -- hart h may take the oldest chunk of its ring: it has passed all the records that it took
   pub record MayTake (f : FedCore) (h : ℕ) : Type 0 where
     pub hart : h < c.log.harts
     pub some : 1 ≤ length (f.feed h).ring

@@ -27,7 +27,7 @@ fn make_core<P: PlanOps>(plan: &P, state: &mut Feeding, step: CoreStep) -> bool
     make(plan, &mut state.core, step)
 }
 
-// A hart takes the front chunk of its ring.
+// A hart takes the oldest chunk of its ring.
 fn take<P: PlanOps>(plan: &P, state: &mut Feeding, hart: u8) -> bool
     requires fits { FitsFed (course P.planned plan.now) state.old }
     requires consistent { IsFedConsistent (course P.planned plan.now) (fed_now state.old) }

@@ -6,7 +6,7 @@ use crate::steps::CoreStep;
 pub enum FedStep {
     /// A step of the core.
     Core(CoreStep),
-    /// The hart takes the front chunk of its ring.
+    /// The hart takes the oldest chunk of its ring.
     Take { hart: u8 },
     /// The feeder puts the next line of the log into its hart's partial chunk.
     Produce,

@@ -11,7 +11,7 @@ use pl_base::layout::{CHUNK_RECORDS, RING_CHUNKS};
 pub(crate) struct HartFeed {
     /// The records of its partial chunk.
     pub(crate) partial: u32,
-    /// The chunks in its ring, front first, in the first `count` places.
+    /// The chunks in its ring, oldest first, in the first `count` places.
     pub(crate) chunks: [u32; RING_CHUNKS],
     pub(crate) count: u32,
     /// The records that it took.
@@ -77,7 +77,7 @@ impl HartFeed {
         }
     }
 
-    // With the front chunk taken.
+    // With the oldest chunk taken.
     pub(crate) fn took(self) -> HartFeed
         requires kept { IsKeptFeed self }
         requires some { 1 ≤ self.count }

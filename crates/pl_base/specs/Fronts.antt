@@ -23,13 +23,13 @@ TakesFront Fault old new limit = TakesBetween old new 0 limit
 TakesFront TooLong old new limit = TakesBetween old new (limit + 1) (limit + PIECE)
 TakesFront NoMemory old new limit = TakesBetween old new 0 limit
 
--- some front of the bytes was appended
+-- some prefix of the bytes was appended
 pub record AppendsFront (old new : Option (List ℕ)) (bytes : List ℕ) : Type 0 where
   pub count : ℕ
   pub within : count ≤ length bytes
   pub appended : Appends old new (take count bytes)
 
--- some front of the bytes was appended, and not all of them
+-- some prefix of the bytes was appended, and not all of them
 pub record AppendsLess (old new : Option (List ℕ)) (bytes : List ℕ) : Type 0 where
   pub count : ℕ
   pub less : count < length bytes

@@ -1,4 +1,4 @@
--- What is read at the front of a text is what is spelled there, and what is spelled there is read.
+-- What is read at the start of a text is what is spelled there, and what is spelled there is read.
 use Rattle.std.proofs.Common.{◌≡◌, ℕ, ◌+◌, ◌-◌, ◌*◌, ◌^◌, ◌<◌, ◌≤◌, Bool, true, false, cond, not, ltb, leb, eqb, ◌&&◌, List, [], ◌∷◌, ◌++◌, ◌⊎◌, Option, Some, None, refl, sym, ap, ◌∙◌, inl, inr, arith}
 use Rattle.std.proofs.lemmas.Bool.{ltb-true, ltb-false, lt-ltb, le-ltb, leb-true, le-leb, eq-eqb, ne_eqb, cases_lt, cases_eq}
 use Rattle.std.proofs.Math.Nat.{mul-le-mul_left}
@@ -44,7 +44,7 @@ split_more base high p n c cs rest small few s = record {
   stops = s.stops;
 }
 
--- a front is a word and what stands behind it
+-- a prefix is a word and what follows it
 split : (base high p n : ℕ) (text rest : List ℕ) → read_on base high p text ≡ front n rest → Split base high p text n rest
 split base high p n [] rest e = split_stop base high p n [] rest refl e
 split base high p n (c ∷ cs) rest e =
@@ -121,7 +121,7 @@ alone : (b : Bool) (x : Option (ℕ × List ℕ)) (n : ℕ) (t : List ℕ) → x
 alone true x n t e = e
 alone false x n t e = e
 
--- what is read as a word is read at a front
+-- what is read as a word is read at the start
 front_again : (base high n : ℕ) (word rest : List ℕ) → base ≤ 16 → number_of base high word ≡ Some n → goes_on base rest ≡ false → front_of base high (word ++ rest) ≡ front n rest
 front_again base high n [] rest low e stops = absurd cc
 front_again base high n (c ∷ []) rest low e stops =
@@ -139,7 +139,7 @@ unfolding digits
 reads_front base high n text rest two low small b =
     ap (front_of base high) b.spelled ∙ front_again base high n (digits base false n) rest low (reads_again base high n two low small b.low) (stops_there base rest low b.ends)
 
--- there is one front
+-- there is one prefix
 pub one_front : (base n m : ℕ) (rest other : List ℕ) → 2 ≤ base → base ≤ 16 → n < 2 ^ 32 → m < 2 ^ 32 → (BeginsWithDigit base rest → ⊥) → (BeginsWithDigit base other → ⊥) → digits base false n ++ rest ≡ digits base false m ++ other → (n ≡ m) × (rest ≡ other)
 one_front base n m rest other two low small big here there e =
     let first = reads_front base (2 ^ 32 - 1) n (digits base false n ++ rest) rest two low (omega arith) (record { low = omega arith; spelled = refl; ends = here }) in
@@ -229,7 +229,7 @@ on_more base high p c v text cs low e small is few =
     let value_is : digit c ≡ v = digit_is base c v low small is in
     sym (ap (read_on base high p) e ∙ rw (value_is, lt-ltb v base small, le-leb (p * base + v) high few) refl)
 
--- a number of one digit, and what it is with a second digit, where one stands first
+-- a number of one digit, and what it is with a second digit, where one comes first
 pub record Second (base v w : ℕ) (text rest : List ℕ) : Type 0 where
   pub taken : (byte digit : ℕ) (more : List ℕ) → text ≡ byte ∷ more → digit < base → byte ≡ digit_glyph false digit → (w ≡ v * base + digit) × (rest ≡ more)
   pub left : (BeginsWithDigit base text → ⊥) → (w ≡ v) × (rest ≡ text)

@@ -18,7 +18,7 @@ number_of base high (c ∷ d ∷ cs) = if c == 48 then None else read_from base 
 abbrev pub front : ℕ → List ℕ → Option (ℕ × List ℕ)
 front n rest = Some (n, rest)
 
--- the front of a text, going on with the number so far
+-- the prefix of a text, going on with the number so far
 abbrev pub read_on : ℕ → ℕ → ℕ → List ℕ → Option (ℕ × List ℕ)
 read_on base high n [] = front n []
 read_on base high n (c ∷ cs) = if nat_lt (digit c) base then (if nat_le (n * base + digit c) high then read_on base high (n * base + digit c) cs else None) else front n (c ∷ cs)

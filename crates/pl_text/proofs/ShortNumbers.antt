@@ -17,7 +17,7 @@ two_digits tens ones some few small =
     let itself : tens % 10 ≡ tens = small_mod 10 tens few in
     rw (quotient, rest, ne_eqb tens 0 (λ e. omega (arith, some, e)), first, itself) refl
 
--- what was read: a digit, and another one behind it or none
+-- what was read: a digit, and another one after it or none
 pub record IsRead (text left : List ℕ) (figure digit : ℕ) : Type 0 where
   pub first : text ≡ digit_glyph false figure ∷ left
   pub below : figure < 10

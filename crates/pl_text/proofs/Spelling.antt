@@ -45,7 +45,7 @@ quotient_pos p base d pos two =
     let wide : 1 * base ≤ p * base = mul-le-mul_right base pos in
     omega (arith, wide)
 
--- a number that goes on from p is written as p and the digits behind it
+-- a number that goes on from p is written as p and the digits after it
 goes : (base high : ℕ) → 2 ≤ base → base ≤ 16 → (p n k j : ℕ) (cs acc : List ℕ) → 0 < p → j ≡ k + length cs → read_from base high p cs ≡ Some n → digits_onto j base false n acc ≡ digits_onto k base false p (cs ++ acc)
 goes base high two low p n k j [] acc pos len e = ap (λ (i : ℕ). digits_onto i base false n acc) (omega arith) ∙ ap (λ (i : ℕ). digits_onto k base false i acc) (sym (some_is p n e))
 goes base high two low p n k j (c ∷ cs) acc pos len e =
@@ -157,7 +157,7 @@ not_none : (base k q : ℕ) → q < base ^ k → (q ≡ 0 → ⊥) → 0 < k
 not_none base zero q lt nz = absurd (nz (omega (arith, pow-zero base)))
 not_none base (suc k) q lt nz = omega arith
 
--- what is written is read, behind a number's first digits
+-- what is written is read, after a number's first digits
 again : (base high : ℕ) → 2 ≤ base → base ≤ 16 → (k n : ℕ) (acc : List ℕ) → 0 < k → n < base ^ k → n ≤ high → read_from base high 0 (digits_onto k base false n acc) ≡ read_from base high n acc
 again base high two low zero n acc pos lt le = absurd (omega arith)
 again base high two low (suc k) n acc pos lt le =

@@ -1,4 +1,4 @@
--- Numbers at the front of a text.
+-- Numbers at the start of a text.
 use Rattle.std.specs.Prelude.{◌≡◌, ℕ, ◌<◌, ◌≤◌, false, List, [], ◌∷◌, ◌++◌}
 use Rattle.std.specs.Fmt.{digits, digit_glyph}
 

@@ -1,7 +1,7 @@
 //! The first byte or the first word of a text.
 ghost use Rattle.std.specs.Prelude.{◌≡◌, ◌∷◌, ◌++◌, [], ℕ, List, IfSome, IfNone, IsSomeAnd};
 
-/// The first byte and what stands behind it.
+/// The first byte and what follows it.
 #[inline(always)]
 pub fn first_byte(text: &[u8]) -> Option<(u8, &[u8])>
     ensures found { IfSome result (λ r. text.now ≡ r.0 ∷ r.1.now) }
@@ -13,7 +13,7 @@ pub fn first_byte(text: &[u8]) -> Option<(u8, &[u8])>
     }
 }
 
-/// What stands behind a byte, where the text begins with it.
+/// What follows a byte, where the text begins with it.
 #[inline(always)]
 pub fn after_byte(text: &[u8], byte: u8) -> Option<&[u8]>
     ensures found { IfSome result (λ rest. text.now ≡ byte ∷ rest.now) }
@@ -23,7 +23,7 @@ pub fn after_byte(text: &[u8], byte: u8) -> Option<&[u8]>
     if first == byte { Some(rest) } else { None }
 }
 
-/// What stands behind a word, where the text begins with it.
+/// What follows a word, where the text begins with it.
 #[inline(always)]
 pub fn after_word<'a>(text: &'a [u8], word: &[u8]) -> Option<&'a [u8]>
     ensures found { IfSome result (λ rest. text.now ≡ word.now ++ rest.now) }

@@ -61,7 +61,7 @@ pub fn digit_of(byte: u8, base: u8) -> Option<u8>
     if value < base { Some(value) } else { None }
 }
 
-/// The number of one digit in base 10 that the text begins with, and what stands behind it.
+/// The number of one digit in base 10 that the text begins with, and what follows it.
 #[inline(always)]
 pub fn digit_at(text: &[u8]) -> Option<(u8, &[u8])>
     ensures found { IfSome result (λ r. (r.0 < 10) × (text.now ≡ decimal r.0 ++ r.1.now)) }
@@ -101,7 +101,7 @@ fn value_at(text: &[u8], base: u8) -> u8
     }
 }
 
-/// The number of one digit with a second one, where one stands first, and what stands behind. Numbers of one digit and
+/// The number of one digit with a second one, where one comes first, and what follows. Numbers of one digit and
 /// of two come in any order, so that no jump tells them apart: what a second digit adds is multiplied by how many there
 /// are.
 #[inline(always)]
@@ -121,7 +121,7 @@ pub fn second_digit(value: u8, text: &[u8], base: u8) -> (u32, &[u8])
     (value + u32::from(more) * added, &text[usize::from(more)..])
 }
 
-/// The number of one digit or two in base 10 that the text begins with, without a leading zero, and what stands behind,
+/// The number of one digit or two in base 10 that the text begins with, without a leading zero, and what follows,
 /// which may be a digit again: that is for the caller to see.
 #[inline(always)]
 pub fn short_decimal_at(text: &[u8]) -> Option<(u32, &[u8])>

@@ -1,4 +1,4 @@
-//! Numbers as texts: each number has one spelling in a base, without leading zeros, and is read where it stands.
+//! Numbers as texts: each number has one spelling in a base, without leading zeros, and is read where it is.
 //!
 //! A reader takes a text and gives the number that it begins with and the rest of the text, so that a line is read by
 //! one reader after the other with no copy and no search for its end.

@@ -75,7 +75,7 @@ pub fn parse_number(word: &[u8], base: u8, high: u32) -> Option<u32>
     if rest.is_empty() { Some(n) } else { None }
 }
 
-/// A text begins with one number at most: where a number ends with the digits that stand there, both the number and the
+/// A text begins with one number at most: where a number ends with the digits that are there, both the number and the
 /// rest are known from the text.
 pub fn one_number()
     ensures { (base n m : ℕ) (rest other : List ℕ) → 2 ≤ base → base ≤ 16 → n < 2 ^ 32 → m < 2 ^ 32

@@ -26,7 +26,7 @@ up_to_stop stops seen (shown ∷ further) =
 abbrev pub line_behind : Meaning → List Shown → List Shown → List ℕ
 line_behind meaning seen further = meaning.line (up_to_stop meaning.stops seen further)
 
--- an event behind those before it, with its place in the run and its number in its hart
+-- an event after those before it, with its place in the run and its number in its hart
 abbrev pub shown_behind : List Event → Event → Shown
 shown_behind before event = record {
   place = length before + 1;

@@ -10,7 +10,7 @@ abbrev pub Telling : Type 0
 Telling = List Shown → List ℕ
 
 module _ {B : Type 0} (meaning : B → Meaning) (has_seen : B → List Shown → Type 0) where
-  -- the probe has seen some events, and tells this line behind them
+  -- the probe has seen some events, and tells this line after them
   pub record WillTellOf (tells : Telling) (probe : B) : Type 0 where
     pub seen : List Shown
     pub has : has_seen probe seen

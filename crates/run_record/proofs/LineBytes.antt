@@ -86,7 +86,7 @@ fault_short fault.Align = omega arith
 fault_short fault.Unmapped = omega arith
 fault_short fault.ReadOnly = omega arith
 
--- all words, each with the blank behind it
+-- all words, each with the blank after it
 abbrev total : List (List ℕ) → ℕ
 total [] = 0
 total (word ∷ words) = length word + 1 + total words

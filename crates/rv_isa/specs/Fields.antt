@@ -19,7 +19,7 @@ rs2_of word = bits 20 5 word
 abbrev pub signed : ℕ → ℕ → ℤ
 signed sign n = if nat_lt n sign then pos n else (pos n -ℤ pos (2 * sign))
 
--- where the immediate stands; R, Free and Whole have none
+-- where the immediate is; R, Free and Whole have none
 pub data Form : Type 0 where
   R : Form
   I : Form

@@ -32,7 +32,7 @@ two a b = codes " " ++ a ++ codes ", " ++ b
 abbrev pub three : List ℕ → List ℕ → List ℕ → List ℕ
 three a b c = two a b ++ codes ", " ++ c
 
--- what stands behind the mnemonic
+-- what follows the mnemonic
 abbrev pub operands : Instr → List ℕ
 operands (Lui rd imm) = two (register rd) (decimal imm)
 operands (Auipc rd imm) = two (register rd) (decimal imm)

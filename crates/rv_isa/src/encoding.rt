@@ -262,7 +262,7 @@ fn shift(rd: u8, funct3: u32, rs1: u8, amount: i32, funct7: u32) -> u32
     )
 }
 
-/// The word of six fields, which stand one above the other.
+/// The word of six fields, one above the other.
 fn pack(opcode: u32, rd: u32, funct3: u32, rs1: u32, rs2: u32, funct7: u32) -> u32
     requires low { (opcode < 128) × (rd < 32) × (funct3 < 8) }
     requires high { (rs1 < 32) × (rs2 < 32) × (funct7 < 128) }

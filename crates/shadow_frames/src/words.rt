@@ -1,4 +1,4 @@
-//! Where the words of the shared table stand.
+//! Where the words of the shared table are.
 use order_core::FIRST_WORD;
 use pl_base::layout::{BLOCK_BYTES, MAX_MAPPED_PAGES, PAGE_BYTES, PAGE_COUNT};
 

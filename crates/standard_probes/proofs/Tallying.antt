@@ -61,7 +61,7 @@ span-more a (suc n) =
     let one : suc n + 1 ≡ suc (n + 1) = omega arith in
     ap (span a) one ∙ ap (λ (xs : List ℕ). a ∷ xs) (span-more (suc a) n ∙ ap (λ (b : ℕ). span (suc a) n ++ b ∷ []) at)
 
--- one more piece of a line, behind its head
+-- one more piece of a line, after its head
 pub pieces-more : (head : List ℕ) (f : ℕ → List ℕ) (n : ℕ) → head ++ flat_map f (span 0 (n + 1)) ≡ (head ++ flat_map f (span 0 n)) ++ f n
 pieces-more head f n =
     let at : 0 + n ≡ n = omega arith in

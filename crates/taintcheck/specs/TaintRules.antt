@@ -13,7 +13,7 @@ abbrev pub taint_store : ℕ → Bool → ℕ
 taint_store old true = 4
 taint_store old false = 0
 
--- a block that is taken or given back keeps what its bytes are
+-- a block that is taken or freed keeps what its bytes are
 abbrev pub taint_range : RangeKind → ℕ → ℕ
 taint_range Al old = old
 taint_range Fr old = old

@@ -5,11 +5,10 @@ use Rattle.pl_event.specs.declared.log.Line.{Line}
 use Rattle.pl_event.specs.declared.log.Record.{Record}
 use Rattle.pl_event.specs.declared.log.Record.TheVariants as entry
 use Rattle.pl_event.specs.Conflicts.{is_access}
-use Rattle.pl_event.specs.Numbers.{is_of, events_of}
+use Rattle.pl_event.specs.Numbers.{is_of}
 use Rattle.lifeguard.specs.Rules.{Rules}
-use Rattle.lifeguard.specs.Plain.{is_taint, plain_result}
+use Rattle.lifeguard.specs.Plain.{is_taint, final_state}
 use Rattle.lifeguard.specs.Ranges.{reports_on}
-use Rattle.lifeguard.specs.State.{State}
 use Rattle.turn_worker.specs.declared.worker.HartResult.{HartResult}
 use Rattle.turn_worker.specs.Workers.{WorkerView, size}
 
@@ -25,15 +24,10 @@ has_check rules line = has_access line.what && not (is_taint rules.name)
 abbrev pub checks_of : Rules → ℕ → List Line → ℕ
 checks_of rules hart lines = count_by (λ line. is_of hart line && has_check rules line) lines
 
--- the plain result of the run
-abbrev pub final_state : WorkerView → State
-final_state v =
-    let log = v.seat.course.log in
-    plain_result v.rules log.pages (events_of log.lines)
-
 pub record IsResult (v : WorkerView) (result : HartResult) : Type 0 where
   pub hart : result.hart ≡ v.seat.hart
-  pub reports : result.reports.items ≡ reports_on v.seat.hart (final_state v).reports
-  pub masks : (r : ℕ) → r < REGISTERS → slice_index result.masks r ≡ (final_state v).masks v.seat.hart r
+  pub reports : result.reports.items ≡ reports_on v.seat.hart (final_state v.rules v.seat.course.log).reports
+  pub masks : (r : ℕ) → r < REGISTERS →
+      slice_index result.masks r ≡ (final_state v.rules v.seat.course.log).masks v.seat.hart r
   pub checks : result.checks ≡ checks_of v.rules v.seat.hart v.seat.course.log.lines
   pub misses : result.misses ≡ v.misses (size v)

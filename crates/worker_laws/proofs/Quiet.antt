@@ -37,7 +37,7 @@ module _ (harts size : ℕ) (lines : List Line) (flow : IsFlow harts lines) (ord
       (λ le. quiet x u k le (x_low) notice)
       (λ nl. let less : x < m = lt_of_not-le nl in too_late less)
     where
-      -- the notice stands before the alert event
+      -- the notice comes before the alert event
       q_low : q ≤ p
       q_low = dite (dec_le q p) (λ l. l) (λ nl.
           let past : p < q = lt_of_not-le nl in
@@ -53,7 +53,7 @@ module _ (harts size : ℕ) (lines : List Line) (flow : IsFlow harts lines) (ord
           let c : records_before h lines j + 1 ≡ n = subst (λ (z : ℕ). records_before z lines j + 1 ≡ n) own later.1.number in
           omega arith
 
-      -- the record behind the notice would come after the alert event
+      -- the record after the notice would come after the alert event
       too_late : x < m → ⊥
       too_late less =
           let at : records_before h lines i + 1 ≡ m = is.number in

@@ -9,7 +9,7 @@ use Rattle.guard_table.specs.Seats.{IsReadNow, IsWriteNow}
 use Rattle.worker_laws.specs.Runs.{Run}
 use Rattle.worker_records.specs.Steps.{IsReadOf, IsWriteOf}
 
--- a read that may be made now stands in the course
+-- a read that may be made now is in the course
 pub read_now : (plan : Planned) (v : View) (number op word : ℕ) (check : Bool) (p : Run) (o : Op) → IsReadOf plan v number op word check p o
     → (q : ℕ) × IsReadNow (course_of plan) v number op word check q (operation_of v.hart number op o)
 read_now plan v number op word check p o is =

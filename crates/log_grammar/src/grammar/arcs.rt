@@ -1,4 +1,4 @@
-//! The arcs behind a record.
+//! The arcs after a record.
 ghost use Rattle.std.specs.Prelude.{IfSome, IfNone, ◌≡◌, ◌∷◌, List, ℕ};
 ghost use Rattle.pl_event.specs.declared.log.Point.{Point};
 ghost use Rattle.log_grammar.specs.Form.{ArePointsInForm, MayHave, most_read};
@@ -24,7 +24,7 @@ pub fn point_at(text: &[u8]) -> Option<(Point, &[u8])>
     Some((Point { hart, number }, rest))
 }
 
-/// One arc or more, one comma apart, which are put into the list, and what stands behind them.
+/// One arc or more, one comma apart, which are put into the list, and what follows them.
 fn list_at<'a>(text: &'a [u8], list: &mut ArcList) -> Option<&'a [u8]>
     ensures found { IfSome result (λ rest. IsArcList text.now list.new rest.now) }
     ensures missed { IfNone result ((points : List Point) (after : List ℕ) → ArePointsInForm most_read points
@@ -43,7 +43,7 @@ fn list_at<'a>(text: &'a [u8], list: &mut ArcList) -> Option<&'a [u8]>
     Some(rest)
 }
 
-/// Whether arcs end the line of an event, which are put into the list, and what stands behind the line feed.
+/// Whether arcs end the line of an event, which are put into the list, and what follows the line feed.
 #[inline(always)]
 fn arcs_at<'a>(what: Record, text: &'a [u8], list: &mut ArcList) -> Option<(bool, &'a [u8])>
     requires { (points : List Point) → MayHave what points }
@@ -61,7 +61,7 @@ fn arcs_at<'a>(what: Record, text: &'a [u8], list: &mut ArcList) -> Option<(bool
     Some((true, rest))
 }
 
-/// Whether arcs end the line of a record, which are put into the list, and what stands behind the line feed. A notice
+/// Whether arcs end the line of a record, which are put into the list, and what follows the line feed. A notice
 /// has none.
 #[inline(always)]
 pub fn end_at<'a>(what: Record, text: &'a [u8], list: &mut ArcList) -> Option<(bool, &'a [u8])>

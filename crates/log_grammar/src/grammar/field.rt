@@ -123,7 +123,7 @@ fn place_of(letter: u8) -> u8
     3 - 3 * is_byte - 2 * is_half - is_word
 }
 
-/// The width of a load by its first letter, and whether a `u` stands behind it.
+/// The width of a load by its first letter, and whether a `u` follows it.
 #[inline(always)]
 fn load_width_of(letter: u8, is_unsigned: bool) -> Option<LoadWidth>
     ensures found { IfSome result (λ width. load_word width ≡ letter ∷ (if is_unsigned then 117 ∷ [] else [])) }
@@ -209,7 +209,7 @@ pub fn page_kind(text: &[u8]) -> Option<(PageKind, &[u8])>
     }
 }
 
-/// The number of a hart, one digit, behind the letter h.
+/// The number of a hart, one digit, after the letter h.
 #[inline(always)]
 pub fn hart(text: &[u8]) -> Option<(u8, &[u8])>
     ensures { Reads (λ hart. hart ≤ 9) (λ hart. (104 ∷ decimal hart) ∷ []) (32 ∷ text.now) result }

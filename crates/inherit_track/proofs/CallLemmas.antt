@@ -1,11 +1,11 @@
 -- A source that is held was loaded, call by call.
-use Rattle.std.proofs.Common.{◌≡◌, ◌≢◌, ◌⊎◌, ℕ, ◌==◌, Bool, true, false, inl, inr, List, [], ◌∷◌, refl, sym, ap, ◌∙◌, subst}
+use Rattle.std.proofs.Common.{◌≡◌, ◌≢◌, ◌⊎◌, ℕ, ◌==◌, true, false, inl, inr, List, [], ◌∷◌, refl, sym, ap, ◌∙◌}
 use Rattle.std.proofs.lemmas.Bool.{cases_eq, eq-eqb, ne_eqb}
 use Rattle.inherit_track.specs.declared.state.Held.{Held}
 use Rattle.inherit_track.specs.declared.state.RegState.{RegState}
 use Rattle.inherit_track.specs.declared.state.RegState.TheVariants as reg
-use Rattle.inherit_track.specs.States.{with_state, IsResolved}
-use Rattle.inherit_track.specs.Calls.{Call, Load, Copy, Set, Resolve, Changes, LeadTo, IsLoaded}
+use Rattle.inherit_track.specs.States.{with_state}
+use Rattle.inherit_track.specs.Calls.{Call, Load, Copy, Set, Resolve, LeadTo, IsLoaded}
 use Rattle.inherit_track.proofs.RegisterLemmas.{known-ne-held, held_same}
 
 -- what a register holds after a write is what was written, or what it held

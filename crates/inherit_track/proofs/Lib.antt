@@ -1,4 +1,5 @@
 pub mod RegisterLemmas
+pub mod HeldLemmas
 pub mod ResolveLemmas
 pub mod OldestLemmas
 pub mod CallLemmas

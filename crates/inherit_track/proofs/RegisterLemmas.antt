@@ -1,6 +1,7 @@
 -- Registers by number, and states told apart.
-use Rattle.std.proofs.Common.{◌≡◌, ◌≢◌, ℕ, ◌<◌, ◌≤◌, List, length, refl, arith, sym, ap, ◌∙◌, subst}
-use Rattle.std.proofs.lemmas.List.{get_or-replicate, get_or_past}
+use Rattle.std.proofs.Common.{◌≡◌, ◌≢◌, ℕ, ◌<◌, ◌≤◌, inl, inr, List, length, slice_set, refl, arith, sym, ap, ◌∙◌, subst}
+use Rattle.std.proofs.lemmas.Bool.{cases_eq}
+use Rattle.std.proofs.lemmas.List.{get_or-replicate, get_or_past, get_or-set_same, get_or-set_other}
 use mathlib.Core.Logic.{dite}
 use native.Mathlib.Decide.{dec_lt}
 use Rattle.inherit_track.specs.declared.state.Held.{Held}
@@ -34,3 +35,13 @@ clear_in r = dite (dec_lt r 34) (λ lt. get_or-replicate 34 r (reg.Known 0) (reg
 
 pub clear_sound : AreSound all_clear
 clear_sound = record { zero = refl; range = λ r. subst IsInRange (sym (clear_in r)) (let lt : 0 < 16 = omega arith in lt) }
+
+-- a register other than 0 is set, in range
+pub sound_set : (states : List RegState) (r : ℕ) (x : RegState) → r < length states → r ≢ 0 → IsInRange x → AreSound states → AreSound (slice_set states r x)
+sound_set states r x lt some range sound = record {
+  zero = get_or-set_other states r 0 x (reg.Known 0) (λ e. some (sym e)) ∙ sound.zero;
+  range = λ k. elim (cases_eq k r) [
+    | inl same ↦ subst (λ (i : ℕ). IsInRange (state_in (slice_set states r x) i)) (sym same) (subst IsInRange (sym (get_or-set_same states r x (reg.Known 0) lt)) range)
+    | inr other ↦ subst IsInRange (sym (get_or-set_other states r k x (reg.Known 0) other)) (sound.range k)
+  ];
+}

@@ -1,5 +1,6 @@
 //! The states of a hart's registers, and the calls on them.
-use crate::state::{Held, RegState};
+use crate::held::{with, without};
+use crate::state::{Held, RegState, is_held};
 use crate::states::{hold_in, oldest_of, resolve_all};
 use std::marker::Model;
 
@@ -7,20 +8,23 @@ use std::marker::Model;
 #[derive(Clone, Copy, Debug)]
 pub struct Inherit {
     states: [RegState; 34],
+    /// Which of them are held.
+    held: u64,
 }
 
 impl Model for Inherit {
-    ghost use Rattle.std.specs.Prelude.{List};
     ghost use Rattle.inherit_track.specs.declared.state.RegState.{RegState};
+    ghost use Rattle.std.specs.Prelude.{◌≡◌, List};
     ghost use Rattle.inherit_track.specs.States.{AreSound};
+    ghost use Rattle.inherit_track.specs.inner.Held.{held_bits};
 
     ghost Value = { List RegState };
 
     ghost view = { λ i. i.states };
 
-    ghost invariant = { λ i. AreSound i.states };
+    ghost invariant = { λ i. AreSound i.states × (i.held ≡ held_bits i.states) };
 
-    ghost inverse = { λ states. record { states = states } };
+    ghost inverse = { λ states. record { states = states; held = held_bits states } };
 }
 
 impl Inherit {
@@ -36,6 +40,7 @@ impl Inherit {
     {
         Inherit {
             states: [RegState::Known(0); 34],
+            held: 0,
         }
     }
 
@@ -85,7 +90,7 @@ impl Inherit {
         requires { mask < 16 }
         ensures { IsResolved from.now mask (state_in self.old) (state_in self.new) }
     {
-        resolve_all(&mut self.states, *from, mask);
+        resolve_all(&mut self.states, &mut self.held, *from, mask);
     }
 
     /// Whether a register is held, and a byte of its source lies in the block of `block` bytes from `block_start` on,
@@ -94,7 +99,7 @@ impl Inherit {
         requires { block_start < MEMORY_BYTES }
         ensures { IsTrue result ↔ HoldsIn self.now block_start block }
     {
-        hold_in(&self.states, block_start, block)
+        hold_in(&self.states, self.held, block_start, block)
     }
 
     /// The least record number of a source that is held; none exactly where no register is held.
@@ -102,7 +107,7 @@ impl Inherit {
         ensures none { result ≡ None ↔ (HoldsSome self.now → ⊥) }
         ensures least { IfSome result (λ number. IsOldest self.now number) }
     {
-        oldest_of(&self.states)
+        oldest_of(&self.states, self.held)
     }
 
     // Register `rd` takes the state.
@@ -112,7 +117,13 @@ impl Inherit {
         ensures { (r : ℕ) → state_in self.new r ≡ with_state (state_in self.old) rd state r }
     {
         if rd != 0 {
-            self.states[rd as usize] = state;
+            let r = rd as usize;
+            self.states[r] = state;
+            self.held = if is_held(state) {
+                with(self.held, r)
+            } else {
+                without(self.held, r)
+            };
         }
     }
 }

@@ -6,6 +6,7 @@
 //! known, and clear.
 #![tactic(auto)]
 
+mod held;
 mod inherit;
 mod laws;
 mod state;

@@ -4,6 +4,7 @@ ghost use Rattle.inherit_track.specs.declared.state.Held.{Held};
 ghost use Rattle.inherit_track.specs.declared.state.RegState.TheVariants as reg;
 ghost use Rattle.pl_base.specs.declared.layout.TheConstants.{MEMORY_BYTES};
 ghost use Rattle.inherit_track.specs.States.{LiesIn, IsInRange};
+ghost use Rattle.inherit_track.specs.inner.Held as held;
 ghost use Rattle.inherit_track.specs.inner.Oldest.{older_of};
 
 use pl_base::LoadWidth;
@@ -24,6 +25,14 @@ pub enum RegState {
     Known(u8),
     /// It is the mask that this load finds.
     Held(Held),
+}
+
+// Whether it is held.
+#[inline]
+pub(crate) fn is_held(state: RegState) -> bool
+    ensures { result ≡ held.is_held state }
+{
+    matches!(state, RegState::Held(_))
 }
 
 // The state once the mask of a source is known.

@@ -1,5 +1,6 @@
 -- The least number of a source, found register by register.
-use Rattle.std.specs.Prelude.{◌≡◌, ℕ, ◌<◌, ◌≤◌, List, Option, Some, None, min}
+use Rattle.std.specs.Prelude.{◌≡◌, ℕ, ◌≤◌, List, Option, Some, None, min}
+use Rattle.std.specs.Int.{bit_at}
 use Rattle.inherit_track.specs.declared.state.Held.{Held}
 use Rattle.inherit_track.specs.declared.state.RegState.{RegState}
 use Rattle.inherit_track.specs.declared.state.RegState.TheVariants as reg
@@ -11,9 +12,9 @@ older_of least (reg.Known mask) = least
 older_of None (reg.Held from) = Some from.number
 older_of (Some number) (reg.Held from) = Some (min number from.number)
 
--- of the first n registers none is held, or this is the least number of a source
-abbrev pub IsOldestBelow : ℕ → List RegState → Option ℕ → Type 0
-IsOldestBelow n states None = (r : ℕ) (from : Held) → r < n → state_in states r ≡ reg.Held from → ⊥
-IsOldestBelow n states (Some number) =
-    ((r : ℕ) × (from : Held) × (r < n) × (state_in states r ≡ reg.Held from) × (from.number ≡ number))
-    × ((r : ℕ) (from : Held) → r < n → state_in states r ≡ reg.Held from → number ≤ from.number)
+-- of the registers outside a set none is held, or this is the least number of a source
+abbrev pub IsOldestBut : ℕ → List RegState → Option ℕ → Type 0
+IsOldestBut left states None = (r : ℕ) (from : Held) → bit_at left r ≡ 0 → state_in states r ≡ reg.Held from → ⊥
+IsOldestBut left states (Some number) =
+    ((r : ℕ) × (from : Held) × (state_in states r ≡ reg.Held from) × (from.number ≡ number))
+    × ((r : ℕ) (from : Held) → bit_at left r ≡ 0 → state_in states r ≡ reg.Held from → number ≤ from.number)

@@ -90,6 +90,9 @@ impl State {
         ensures nothing { HoldsNothing (parts_of self.new) }
         ensures others { self.new ≡ record self.old { tracker = self.new.tracker } }
     {
+        if self.tracker.oldest().is_none() {
+            return;
+        }
         for r in 0..REGISTERS {
             self.mask_of(monitor, seat, guard, r);
         }

@@ -1,4 +1,4 @@
-use Rattle.std.proofs.Common.{◌≡◌, ℕ, ◌+◌, ◌<◌, refl, sym, ap, ◌∙◌, subst, arith}
+use Rattle.std.proofs.Common.{rules, ◌≡◌, ℕ, ◌+◌, ◌<◌, None, refl, sym, ap, ◌∙◌, subst, arith}
 use mathlib.Core.Logic.{dite}
 use native.Mathlib.Decide.{ℕ_discrete}
 use Rattle.guard_table.specs.declared.view.View.{View}
@@ -42,3 +42,9 @@ returns-clause-nothing g c r from e =
     let h = held_there (state_in c.loop-r.self.tracker) r from e in
     let t = c.loop-r.invariant.known r (let l : r < 34 = h.0 in omega (arith, l, c.loop-r-test.false)) in
     known_not _ t.0 from (sym t.1 ∙ h.1)
+
+pub returns-then-is_none-clause-nothing : goal.returns-then-is_none-clause-nothing
+returns-then-is_none-clause-nothing g c r from e =
+    let h = held_there (state_in c.args.self.now.tracker) r from e in
+    let none : c.oldest.result ≡ None = (let empty = c.if-is_none.true in search rules) in
+    c.oldest.ensures.none.0 none (r, from, h.1)

@@ -5,7 +5,6 @@ use mathlib.Core.Logic.{dite}
 use native.Mathlib.Decide.{dec_le}
 use Rattle.std.proofs.lemmas.List.{length-take-le}
 use Rattle.atomic_table.specs.Seated.{TableId}
-use Rattle.pl_event.specs.declared.fed.Fed.{Fed}
 use Rattle.pl_event.specs.Feeds.{feds_of}
 use Rattle.pl_event.specs.Needs.{need_of, needs_of}
 use Rattle.lifeguard.specs.Rules.{Rules}
@@ -26,11 +25,12 @@ use Rattle.worker_records.specs.Places.{run_at}
 use Rattle.worker_records.specs.States.{IsKept, IsReady, parts_of}
 use Rattle.lifeguard_worker.specs.declared.needs.Short.{Short}
 use Rattle.lifeguard_worker.specs.Turns.{HasLooked, HasSeenBelow, IsShort}
+use Rattle.lifeguard_worker.specs.Rows.{Item}
 use Rattle.lifeguard_worker.specs.Workers.{IsWorker, stream_of, worker_view}
 use Rattle.lifeguard_worker.proofs.LookLemmas.{need_at}
 use Rattle.lifeguard_worker.proofs.MoveLemmas.{Moves, met_next, moves_looked, moves_then, moves_told, next_within, worker_then}
 
-module _ (rules : Rules) (table : TableId) (w : View) (t : State) (told before : ℕ) (stream : List Fed) (fed : ℕ) (ended : Bool) (is : IsWorker rules w t told before stream fed ended) (all : w.progress ≡ t.taken) where
+module _ (rules : Rules) (table : TableId) (w : View) (t : State) (told before : ℕ) (stream : List Item) (fed : ℕ) (ended : Bool) (is : IsWorker rules w t told before stream fed ended) (all : w.progress ≡ t.taken) where
   size : length (take fed (stream_of w)) ≡ fed
   size = length-take-le fed (stream_of w) is.within
 
@@ -83,7 +83,7 @@ module _ (rules : Rules) (table : TableId) (w : View) (t : State) (told before :
 
 -- ---- within a turn
 
-module _ (rules : Rules) (table table' : TableId) (v v1 v2 : View) (s t : State) (told before : ℕ) (stream : List Fed) (fed : ℕ) (ended : Bool) (is : IsWorker rules v s told before stream fed ended) (left : s.taken < fed) (looked : HasLooked v v1) where
+module _ (rules : Rules) (table table' : TableId) (v v1 v2 : View) (s t : State) (told before : ℕ) (stream : List Item) (fed : ℕ) (ended : Bool) (is : IsWorker rules v s told before stream fed ended) (left : s.taken < fed) (looked : HasLooked v v1) where
   course : v1.course ≡ v.course
   course = ap (λ (z : View). z.course) looked.same
 

@@ -1,6 +1,6 @@
 -- What a worker is after it was fed.
-use Rattle.std.proofs.Common.{◌≡◌, ℕ, ◌+◌, ◌-◌, ◌<◌, ◌≤◌, ◌++◌, Bool, List, drop, length, take, subst, arith}
-use Rattle.std.proofs.lemmas.List.{length-take-le}
+use Rattle.std.proofs.Common.{◌≡◌, ℕ, ◌+◌, ◌-◌, ◌<◌, ◌≤◌, ◌++◌, Bool, List, drop, length, map, take, ap, sym, ◌∙◌, subst, arith}
+use Rattle.std.proofs.lemmas.List.{length-map, length-take-le}
 use Rattle.atomic_table.specs.Seated.{TableId}
 use Rattle.pl_event.specs.declared.fed.Fed.{Fed}
 use Rattle.lifeguard.specs.Rules.{KeepsLaws, Rules}
@@ -10,12 +10,13 @@ use Rattle.turn_worker.specs.Workers.{IsNextFed}
 use Rattle.worker_records.specs.declared.state.State.{State}
 use Rattle.worker_records.specs.Places.{run_at}
 use Rattle.worker_records.proofs.CountLemmas.{size_small}
-use Rattle.lifeguard_worker.specs.Workers.{Follows, IsWorker, stream_of, worker_view}
-use Rattle.lifeguard_worker.proofs.FedLemmas.{fed_inside, length_feds, next_after}
+use Rattle.lifeguard_worker.specs.Rows.{Item, item_of}
+use Rattle.lifeguard_worker.specs.Workers.{Follows, IsWorker, items_of, stream_of, worker_view}
+use Rattle.lifeguard_worker.proofs.FedLemmas.{fed_inside, items_next, length_feds, next_after}
 use Rattle.lifeguard_worker.proofs.MoveLemmas.{is_kept}
 
 -- its list grew, by records that were refused
-pub worker_grown : (rules : Rules) (v : View) (s : State) (told before : ℕ) (stream grown : List Fed) (fed : ℕ) (ended : Bool) → IsWorker rules v s told before stream fed ended → Follows v before grown → length stream ≤ length grown → IsWorker rules v s told before grown fed ended
+pub worker_grown : (rules : Rules) (v : View) (s : State) (told before : ℕ) (stream grown : List Item) (fed : ℕ) (ended : Bool) → IsWorker rules v s told before stream fed ended → Follows v before grown → length stream ≤ length grown → IsWorker rules v s told before grown fed ended
 worker_grown rules v s told before stream grown fed ended is follows more = record {
   run = is.run;
   kept = is.kept;
@@ -28,7 +29,7 @@ worker_grown rules v s told before stream grown fed ended is follows more = reco
   whole = is.whole;
 }
 
-module _ (rules : Rules) (table : TableId) (v : View) (s : State) (told before : ℕ) (stream : List Fed) (fed : ℕ) (ended : Bool) (is : IsWorker rules v s told before stream fed ended) (items : List Fed) (next : IsNextFed (worker_view rules table v s fed ended) items) where
+module _ (rules : Rules) (table : TableId) (v : View) (s : State) (told before : ℕ) (stream : List Item) (fed : ℕ) (ended : Bool) (is : IsWorker rules v s told before stream fed ended) (items : List Fed) (next : IsNextFed (worker_view rules table v s fed ended) items) where
   size : length (take fed (stream_of v)) ≡ fed
   size = length-take-le fed (stream_of v) is.within
 
@@ -39,8 +40,11 @@ module _ (rules : Rules) (table : TableId) (v : View) (s : State) (told before :
   inside = omega (arith, size, fed_inside (stream_of v) (take fed (stream_of v)) items next)
 
   -- they follow in its list
-  pub next_kept : take (fed - before + length items) (drop before (stream_of v)) ≡ take (fed - before) stream ++ items
-  next_kept = next_after (stream_of v) stream before is.follows fed items (omega (arith, is.forgotten, is.few)) is.inside is.within next_fed
+  pub next_kept : take (fed - before + length items) (drop before (items_of v)) ≡ take (fed - before) stream ++ map item_of items
+  next_kept =
+      let within : fed ≤ length (items_of v) = omega (arith, is.within, length-map (stream_of v) item_of) in
+      ap (λ (n : ℕ). take (fed - before + n) (drop before (items_of v))) (sym (length-map items item_of))
+      ∙ next_after (items_of v) stream before is.follows fed (map item_of items) (omega (arith, is.forgotten, is.few)) is.inside within (items_next (stream_of v) items fed next_fed)
 
   pub fed_small : KeepsLaws rules → fed + length items < 4294967295
   fed_small laws =
@@ -48,7 +52,7 @@ module _ (rules : Rules) (table : TableId) (v : View) (s : State) (told before :
       omega (arith, inside, length_feds v.course.log.lines v.hart, small)
 
   -- its list grew by all of them
-  pub worker_fed : (grown : List Fed) → Follows v before grown → fed - before + length items ≤ length grown → IsWorker rules v s told before grown (fed + length items) ended
+  pub worker_fed : (grown : List Item) → Follows v before grown → fed - before + length items ≤ length grown → IsWorker rules v s told before grown (fed + length items) ended
   worker_fed grown follows all = record {
     run = is.run;
     kept = is.kept;

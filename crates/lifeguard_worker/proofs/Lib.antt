@@ -1,3 +1,4 @@
+pub mod RowLemmas
 pub mod FedLemmas
 pub mod LookLemmas
 pub mod MoveLemmas

@@ -1,7 +1,7 @@
 -- What the parts of a turn do to a worker.
 use Rattle.std.proofs.Common.{◌≡◌, ℕ, ◌+◌, ◌-◌, ◌*◌, ◌<◌, ◌≤◌, Bool, true, false, List, [], ◌∷◌, Some, length, take, refl, sym, ap, ◌∙◌, subst, arith}
 use Rattle.std.specs.Prelude.{slice_get, slice_index}
-use Rattle.std.proofs.lemmas.List.{length-take-le}
+use Rattle.std.proofs.lemmas.List.{length-map, length-take-le}
 use mathlib.Core.Logic.{dite}
 use native.Mathlib.Decide.{ℕ_discrete}
 use Rattle.atomic_table.specs.Seated.{TableId}
@@ -36,8 +36,10 @@ use Rattle.worker_records.specs.Accesses.{HasWritten}
 use Rattle.worker_records.specs.Places.{IsAt, run_at}
 use Rattle.worker_records.specs.States.{IsKept, parts_of, spare}
 use Rattle.lifeguard_worker.specs.Turns.{HasLooked, HasSeenBelow}
-use Rattle.lifeguard_worker.specs.Workers.{IsOfRun, IsWorker, stream_of, worker_view}
-use Rattle.lifeguard_worker.proofs.FedLemmas.{at_taken}
+use Rattle.lifeguard_worker.specs.declared.rows.Entry.{Entry}
+use Rattle.lifeguard_worker.specs.Rows.{Item, entry_of, item_of}
+use Rattle.lifeguard_worker.specs.Workers.{IsOfRun, IsWorker, items_of, stream_of, worker_view}
+use Rattle.lifeguard_worker.proofs.FedLemmas.{at_taken, item_at}
 use Rattle.lifeguard_worker.proofs.LookLemmas.{kept_looks, need_at}
 
 -- ---- the seat
@@ -97,7 +99,7 @@ steps_then rules v w moves = ap (λ (z : View). steps_at (run_at rules z) z.hart
 
 -- ---- what a worker keeps
 
-pub is_kept : (rules : Rules) (v : View) (s : State) (told before : ℕ) (stream : List Fed) (fed : ℕ) (ended : Bool) → KeepsLaws rules → IsWorker rules v s told before stream fed ended → IsKept rules v s
+pub is_kept : (rules : Rules) (v : View) (s : State) (told before : ℕ) (stream : List Item) (fed : ℕ) (ended : Bool) → KeepsLaws rules → IsWorker rules v s told before stream fed ended → IsKept rules v s
 is_kept rules v s told before stream fed ended laws is = record {
   run = log_is_run rules v.course.log laws (subst (λ (c : Course). ∥ IsLawful c ∥₁) is.run.planned is.run.lawful);
   kept = is.kept;
@@ -110,7 +112,7 @@ kept_at rules v w s moves is kept = subst (λ (z : View). IsKept rules z s) (sym
 pub same_parts : (s t : State) → t ≡ record s { reports = t.reports } → t.reports.items ≡ s.reports.items → parts_of t ≡ parts_of s
 same_parts s t others items = ap parts_of others ∙ ap (λ (z : _). record (parts_of s) { reports = z }) items
 
-pub worker_then : (rules : Rules) (v w : View) (s t : State) (told told' before : ℕ) (stream : List Fed) (fed : ℕ) (ended : Bool) → IsWorker rules v s told before stream fed ended → Moves v w → IsKept rules w t → w.progress ≡ told' → s.taken ≤ t.taken → t.taken ≤ fed
+pub worker_then : (rules : Rules) (v w : View) (s t : State) (told told' before : ℕ) (stream : List Item) (fed : ℕ) (ended : Bool) → IsWorker rules v s told before stream fed ended → Moves v w → IsKept rules w t → w.progress ≡ told' → s.taken ≤ t.taken → t.taken ≤ fed
     → IsWorker rules w t told' before stream fed ended
 worker_then rules v w s t told told' before stream fed ended is moves kept shown up few = subst (λ (z : View). IsWorker rules z t told' before stream fed ended) (sym moves.same)
     (record {
@@ -146,17 +148,19 @@ later_then rules table table' v w s t fed ended n e moves up few room = subst (�
 first_of : (v : View) (m : ℕ) → m ≤ length (stream_of v) → take (length (take m (stream_of v))) (stream_of v) ≡ take m (stream_of v)
 first_of v m le = ap (λ (n : ℕ). take n (stream_of v)) (length-take-le m (stream_of v) le)
 
-pub next_fed : (rules : Rules) (v : View) (s : State) (told before : ℕ) (stream : List Fed) (fed : ℕ) (ended : Bool) → IsWorker rules v s told before stream fed ended → s.taken < fed → (next : Fed) → slice_get stream (s.taken - before) ≡ Some next
-    → (i : ℕ) × (line : Line) × IsRecord v.course.log.lines i v.hart (s.taken + 1) line × (next ≡ fed_at v.course.log.lines i line)
+pub next_fed : (rules : Rules) (v : View) (s : State) (told before : ℕ) (stream : List Item) (fed : ℕ) (ended : Bool) → IsWorker rules v s told before stream fed ended → s.taken < fed → (next : Item) → slice_get stream (s.taken - before) ≡ Some next
+    → (i : ℕ) × (line : Line) × IsRecord v.course.log.lines i v.hart (s.taken + 1) line × (next ≡ item_of (fed_at v.course.log.lines i line))
 next_fed rules v s told before stream fed ended is left next got =
     let whole : List Fed = stream_of v in
     let size : length (take fed whole) ≡ fed = length-take-le fed whole is.within in
+    let within : fed ≤ length (items_of v) = omega (arith, is.within, length-map whole item_of) in
     let t = fed_record (run_at rules v) v.hart (take fed whole) (first_of v fed is.within) s.taken (omega (arith, size, left)) in (
       t.0,
       t.1,
       t.2,
-      some_is next (fed_at v.course.log.lines t.0 t.1)
-          (sym (at_taken whole stream before is.follows s.taken fed is.forgotten left is.inside is.within next got) ∙ t.3),
+      some_is next (item_of (fed_at v.course.log.lines t.0 t.1))
+          (sym (at_taken (items_of v) stream before is.follows s.taken fed is.forgotten left is.inside within next got)
+          ∙ item_at whole fed s.taken (fed_at v.course.log.lines t.0 t.1) t.3),
     )
 
 pub next_within : (rules : Rules) (v : View) (fed n : ℕ) → fed ≤ length (stream_of v) → n < fed → n + 1 ≤ size (run_at rules v) v.hart
@@ -164,8 +168,8 @@ next_within rules v fed n within lt =
     let size : length (take fed (stream_of v)) ≡ fed = length-take-le fed (stream_of v) within in
     fed_within (run_at rules v) v.hart (take fed (stream_of v)) (first_of v fed within) n (omega (arith, size, lt))
 
-pub fed_needs : (lines : List Line) (h i m : ℕ) (line : Line) → IsRecord lines i h m line → (fed : Fed) → fed ≡ fed_at lines i line → fed.needs ≡ needs_of lines h m
-fed_needs lines h i m line is fed e = ap (λ (f : Fed). f.needs) e ∙ (ap (λ (z : ℕ). needs_of lines z (records_before z lines i + 1)) is.hart ∙ ap (needs_of lines h) is.number)
+pub fed_needs : (lines : List Line) (h i m : ℕ) (line : Line) → IsRecord lines i h m line → (fed : Item) → fed ≡ item_of (fed_at lines i line) → fed.needs ≡ needs_of lines h m
+fed_needs lines h i m line is fed e = ap (λ (f : Item). f.needs) e ∙ (ap (λ (z : ℕ). needs_of lines z (records_before z lines i + 1)) is.hart ∙ ap (needs_of lines h) is.number)
 
 pub met_next : (c : Course) → Known c → (w : View) (h n : ℕ) → IsMet c (slice_index w.seen) h n → HasSeenBelow (needs_of c.log.lines h (n + 1)) w 8 → IsMet c (slice_index w.seen) h (n + 1)
 met_next c k w h n met below u need j is le = dite (ℕ_discrete j (n + 1))
@@ -174,14 +178,14 @@ met_next c k w h n met below u need j is le = dite (ℕ_discrete j (n + 1))
     (λ ne. met u need j is (let o : j ≡ n + 1 → ⊥ = ne in omega arith))
 
 -- a record that is fed, as the next one
-abbrev pub IsFedNext : View → ℕ → Fed → Type 0
-IsFedNext v n fed = (i : ℕ) × (line : Line) × IsRecord v.course.log.lines i v.hart (n + 1) line × (fed ≡ fed_at v.course.log.lines i line)
+abbrev pub IsFedNext : View → ℕ → Entry → Type 0
+IsFedNext v n fed = (i : ℕ) × (line : Line) × IsRecord v.course.log.lines i v.hart (n + 1) line × (fed ≡ entry_of (fed_at v.course.log.lines i line))
 
-pub fed_then : (v w : View) (n n' : ℕ) (fed : Fed) → Moves v w → n' ≡ n → IsFedNext v n fed → IsFedNext w n' fed
+pub fed_then : (v w : View) (n n' : ℕ) (fed : Entry) → Moves v w → n' ≡ n → IsFedNext v n fed → IsFedNext w n' fed
 fed_then v w n n' fed moves e is = subst (λ (z : View). IsFedNext z n' fed) (sym moves.same) (subst (λ (k : ℕ). IsFedNext v k fed) (sym e) is)
 
 -- after room was made for reports
-pub room_kept : (rules : Rules) (v w : View) (s t : State) (told before : ℕ) (stream : List Fed) (fed : ℕ) (ended : Bool) → KeepsLaws rules → IsWorker rules v s told before stream fed ended → HasLooked v w
+pub room_kept : (rules : Rules) (v w : View) (s t : State) (told before : ℕ) (stream : List Item) (fed : ℕ) (ended : Bool) → KeepsLaws rules → IsWorker rules v s told before stream fed ended → HasLooked v w
     → t ≡ record s { reports = t.reports } → t.reports.items ≡ s.reports.items → IsKept rules w t
 room_kept rules v w s t told before stream fed ended laws is looked others items =
     let same : t.taken ≡ s.taken = ap (λ (z : State). z.taken) others in
@@ -192,12 +196,12 @@ room_kept rules v w s t told before stream fed ended laws is looked others items
     (subst (λ (z : Parts). Kept (run_at rules v) v.hart w t.taken z) (sym (same_parts s t others items)) (subst (λ (n : ℕ). Kept (run_at rules v) v.hart w n (parts_of s)) (sym same)
     (kept_looks (run_at rules v) v.hart v w s.taken (parts_of s) looked is.kept)))
 
-pub looked_kept : (rules : Rules) (v w : View) (s : State) (told before : ℕ) (stream : List Fed) (fed : ℕ) (ended : Bool) → KeepsLaws rules → IsWorker rules v s told before stream fed ended → HasLooked v w → IsKept rules w s
+pub looked_kept : (rules : Rules) (v w : View) (s : State) (told before : ℕ) (stream : List Item) (fed : ℕ) (ended : Bool) → KeepsLaws rules → IsWorker rules v s told before stream fed ended → HasLooked v w → IsKept rules w s
 looked_kept rules v w s told before stream fed ended laws is looked =
     kept_at rules v w s (moves_looked v w looked) (is_kept rules v s told before stream fed ended laws is) (kept_looks (run_at rules v) v.hart v w s.taken (parts_of s) looked is.kept)
 
 -- a note is learnt
-pub worker_learnt : (rules : Rules) (v : View) (s : State) (told before : ℕ) (stream : List Fed) (fed : ℕ) (ended : Bool) → KeepsLaws rules → IsWorker rules v s told before stream fed ended → (note : View) → IsWorker rules (learnt_from note v) s told before stream fed ended
+pub worker_learnt : (rules : Rules) (v : View) (s : State) (told before : ℕ) (stream : List Item) (fed : ℕ) (ended : Bool) → KeepsLaws rules → IsWorker rules v s told before stream fed ended → (note : View) → IsWorker rules (learnt_from note v) s told before stream fed ended
 worker_learnt rules v s told before stream fed ended laws is note =
     let run = (is_kept rules v s told before stream fed ended laws is).run in
     record {
@@ -213,7 +217,7 @@ worker_learnt rules v s told before stream fed ended laws is note =
     }
 
 -- at the start
-pub worker_first : (rules : Rules) (v : View) (s : State) (stream : List Fed) → KeepsLaws rules → IsOfRun rules v → v.written ≡ 0 → v.progress ≡ 0 → s.taken ≡ 0 → parts_of s ≡ first_parts → stream ≡ [] → IsWorker rules v s 0 0 stream 0 false
+pub worker_first : (rules : Rules) (v : View) (s : State) (stream : List Item) → KeepsLaws rules → IsOfRun rules v → v.written ≡ 0 → v.progress ≡ 0 → s.taken ≡ 0 → parts_of s ≡ first_parts → stream ≡ [] → IsWorker rules v s 0 0 stream 0 false
 worker_first rules v s stream laws of written progress taken parts none =
     let run = log_is_run rules v.course.log laws (subst (λ (c : Course). ∥ IsLawful c ∥₁) of.planned of.lawful) in
     record {
@@ -222,13 +226,13 @@ worker_first rules v s stream laws of written progress taken parts none =
           (kept_first (run_at rules v) run (known (course_of (run_at rules v).plan) run.lawful) v.hart v written progress));
       progress = progress;
       forgotten = omega arith;
-      follows = subst (λ (z : List Fed). take (length z) (stream_of v) ≡ z) (sym none) (nothing (stream_of v));
+      follows = subst (λ (z : List Item). take (length z) (items_of v) ≡ z) (sym none) (nothing (items_of v));
       inside = omega arith;
       within = omega arith;
       few = omega (arith, taken);
       whole = λ e. absurd (let f : false ≡ true = e in cc);
     }
   where
-    nothing : (xs : List Fed) → take 0 xs ≡ []
+    nothing : (xs : List Item) → take 0 xs ≡ []
     nothing [] = refl
     nothing (x ∷ xs) = refl

@@ -1,3 +1,4 @@
+pub mod Rows
 pub mod Workers
 pub mod Sound
 pub mod Turns

@@ -2,7 +2,6 @@
 use Rattle.std.specs.Prelude.{◌≡◌, ℕ, ◌+◌, ◌<◌, ◌≤◌, Bool, List, length, take}
 use Rattle.std.proofs.Common.{sym, ap, ◌∙◌, subst}
 use Rattle.std.proofs.lemmas.List.{length-take-le}
-use Rattle.pl_event.specs.declared.fed.Fed.{Fed}
 use Rattle.lifeguard.specs.Rules.{Rules}
 use Rattle.order_core.specs.declared.course.Course.{Course}
 use Rattle.order_core.specs.Counts.{writes_before}
@@ -10,9 +9,10 @@ use Rattle.guard_table.specs.declared.seats.GuardSeat.{GuardSeat}
 use Rattle.guard_table.specs.Seats.{seat_view}
 use Rattle.turn_worker.specs.Workers.{IsSound}
 use Rattle.worker_records.specs.declared.state.State.{State}
+use Rattle.lifeguard_worker.specs.Rows.{Item}
 use Rattle.lifeguard_worker.specs.Workers.{IsWorker, stream_of, table_of, worker_view}
 
-pub is_sound : (rules : Rules) (seat : GuardSeat) (s : State) (told before : ℕ) (stream : List Fed) (fed : ℕ)
+pub is_sound : (rules : Rules) (seat : GuardSeat) (s : State) (told before : ℕ) (stream : List Item) (fed : ℕ)
     → (ended : Bool) → IsWorker rules (seat_view seat) s told before stream fed ended
     → IsSound (worker_view rules (table_of seat) (seat_view seat) s fed ended)
 is_sound rules seat s told before stream fed ended is =

@@ -1,5 +1,5 @@
 -- What a worker keeps, and what contracts see of it.
-use Rattle.std.specs.Prelude.{◌≡◌, ℕ, ◌+◌, ◌≤◌, Bool, true, false, List, [], drop, length, take}
+use Rattle.std.specs.Prelude.{◌≡◌, ℕ, ◌+◌, ◌≤◌, Bool, true, false, List, [], drop, length, map, take}
 use Rattle.atomic_table.specs.Seated.{TableId}
 use Rattle.pl_event.specs.declared.fed.Fed.{Fed}
 use Rattle.pl_event.specs.Feeds.{feds_of}
@@ -15,6 +15,7 @@ use Rattle.worker_laws.specs.Kept.{Kept}
 use Rattle.worker_records.specs.declared.state.State.{State}
 use Rattle.worker_records.specs.Places.{run_at}
 use Rattle.worker_records.specs.States.{parts_of, spare}
+use Rattle.lifeguard_worker.specs.Rows.{Item, item_of}
 
 -- the table of a seat
 abbrev pub table_of : GuardSeat → TableId
@@ -24,9 +25,13 @@ table_of seat = seat.seat.table_id
 abbrev pub stream_of : View → List Fed
 stream_of v = feds_of v.hart v.course.log.lines
 
+-- what a worker uses of them
+abbrev pub items_of : View → List Item
+items_of v = map item_of (stream_of v)
+
 -- these records follow so many first ones in the hart's stream
-abbrev pub Follows : View → ℕ → List Fed → Type 0
-Follows v before kept = take (length kept) (drop before (stream_of v)) ≡ kept
+abbrev pub Follows : View → ℕ → List Item → Type 0
+Follows v before kept = take (length kept) (drop before (items_of v)) ≡ kept
 
 -- the seat is of a lawful run, whose operations are those of its log under these rules
 pub record IsOfRun (rules : Rules) (v : View) : Type 0 where
@@ -36,7 +41,7 @@ pub record IsOfRun (rules : Rules) (v : View) : Type 0 where
 -- a worker whose seat has this view: what it keeps is right after the records taken, `told` is its progress word. So
 -- many records of its hart's stream were fed, and all once the stream has ended. Those `before` the records that it
 -- has are taken and forgotten
-pub record IsWorker (rules : Rules) (v : View) (s : State) (told before : ℕ) (stream : List Fed) (fed : ℕ)
+pub record IsWorker (rules : Rules) (v : View) (s : State) (told before : ℕ) (stream : List Item) (fed : ℕ)
     (ended : Bool) : Type 0 where
   pub run : IsOfRun rules v
   pub kept : Kept (run_at rules v) v.hart v s.taken (parts_of s)

@@ -3,11 +3,11 @@ ghost use Rattle.std.specs.Prelude.{◌≡◌, IfOk};
 ghost use Rattle.guard_table.specs.Seats.{seat_view};
 ghost use Rattle.lifeguard_worker.specs.Workers.{IsOfRun, first_worker, table_of};
 
+use crate::rows::Rows;
 use crate::worker::Worker;
 use guard_table::GuardSeat;
 use lifeguard::Lifeguard;
 use pl_base::NoMemory;
-use pl_event::Feds;
 use std::alloc::Global;
 use turn_worker::TurnWorker;
 use worker_records::State;
@@ -30,7 +30,7 @@ impl<L: Lifeguard> Worker<L> {
             state: State::new(alloc),
             told: 0,
             before: 0,
-            stream: Feds::new(alloc),
+            stream: Rows::new(alloc),
             fed: 0,
             ended: false,
         })

@@ -11,6 +11,7 @@ mod begin;
 mod needs;
 mod one_record;
 mod progress;
+mod rows;
 mod stream;
 mod turns;
 mod worker;

@@ -5,6 +5,7 @@ ghost use Rattle.pl_event.specs.Needs.{needs_of};
 ghost use Rattle.order_core.specs.Lawful.{IsLawful};
 ghost use Rattle.guard_table.specs.Seats.{seat_view, IsSeatOf};
 ghost use Rattle.turn_worker.specs.declared.worker.Turn.TheVariants.{Waiting};
+ghost use Rattle.lifeguard_worker.specs.Rows.{needs_in};
 ghost use Rattle.lifeguard_worker.specs.Turns.{HasLooked, HasSeenBelow, IsShort};
 
 use guard_table::{GuardSeat, Monitor};
@@ -63,12 +64,8 @@ fn look<P: Plan>(
     }
 }
 
-/// Looks at the harts of which something is needed, up to the first that is not far enough.
-pub(crate) fn first_short<P: Plan>(
-    monitor: &Monitor<P>,
-    seat: &mut GuardSeat,
-    needs: &Arcs,
-) -> Option<Short>
+// Looks at the harts of which something is needed, up to the first that is not far enough.
+fn first_short<P: Plan>(monitor: &Monitor<P>, seat: &mut GuardSeat, needs: &Arcs) -> Option<Short>
     requires of { IsSeatOf P.planned monitor.now seat.old }
     requires lawful { ∥ IsLawful (seat_view seat.old).course ∥₁ }
     requires needs { let v = seat_view seat.old in (m : ℕ) × (needs.now ≡ needs_of v.course.log.lines v.hart m) }
@@ -84,4 +81,27 @@ pub(crate) fn first_short<P: Plan>(
         }
     }
     None
+}
+
+/// Looks at the harts of which a record needs something, up to the first that is not far enough. Where it needs
+/// nothing no hart is looked at.
+pub(crate) fn short_of<P: Plan>(
+    monitor: &Monitor<P>,
+    seat: &mut GuardSeat,
+    needs: &Option<Arcs>,
+) -> Option<Short>
+    requires of { IsSeatOf P.planned monitor.now seat.old }
+    requires lawful { ∥ IsLawful (seat_view seat.old).course ∥₁ }
+    requires needs { let v = seat_view seat.old in
+        (m : ℕ) × (needs_in needs.now ≡ needs_of v.course.log.lines v.hart m) }
+    ensures of { IsSeatOf P.planned monitor.now seat.new }
+    ensures looked { HasLooked (seat_view seat.old) (seat_view seat.new) }
+    ensures seen { result ≡ None → HasSeenBelow (needs_in needs.now) (seat_view seat.new) MAX_HARTS }
+    ensures short { IfSome result (λ short.
+        IsShort (needs_in needs.now) (seat_view seat.old) (seat_view seat.new) short) }
+{
+    match needs {
+        None => None,
+        Some(needs) => first_short(monitor, seat, needs),
+    }
 }

@@ -10,15 +10,17 @@ ghost use Rattle.worker_laws.specs.Folds.{steps_at};
 ghost use Rattle.worker_records.specs.Accesses.{HasWritten};
 ghost use Rattle.worker_records.specs.Places.{IsAt, run_at};
 ghost use Rattle.worker_records.specs.States.{IsKept, IsReady, spare};
+ghost use Rattle.lifeguard_worker.specs.Rows.{entry_of};
 
-use crate::needs::first_short;
+use crate::needs::short_of;
 use crate::progress::{keep_up, tell_all};
+use crate::rows::Entry;
 use crate::worker::Worker;
 use guard_table::{GuardSeat, Monitor};
 use lifeguard::{EventPlace, Lifeguard};
 use order_core::Plan;
 use pl_base::Steps;
-use pl_event::{Fed, Record};
+use pl_event::Record;
 use std::sync::ledger::Ledger;
 use turn_worker::{Turn, TurnWorker};
 use worker_records::State;
@@ -32,13 +34,14 @@ fn take_record<P: Plan, L: Lifeguard, K: Ledger>(
     seat: &mut GuardSeat,
     guard: L,
     state: &mut State,
-    fed: &Fed,
+    entry: Entry,
     steps: &mut Steps<K>,
 )
     requires at { IsAt P.planned monitor.now (L.rules guard) seat.old }
     requires ready { IsReady (L.rules guard) (seat_view seat.old) state.old }
     requires fed { let v = seat_view seat.old in let lines = v.course.log.lines in
-        (i : ℕ) × (line : Line) × IsRecord lines i v.hart (state.old.taken + 1) line × (fed.now ≡ fed_at lines i line) }
+        (i : ℕ) × (line : Line) × IsRecord lines i v.hart (state.old.taken + 1) line
+        × (entry ≡ entry_of (fed_at lines i line)) }
     requires room { 3 ≤ spare state.old }
     ensures at { IsAt P.planned monitor.now (L.rules guard) seat.new }
     ensures view { HasWritten (seat_view seat.old) (seat_view seat.new) }
@@ -48,13 +51,13 @@ fn take_record<P: Plan, L: Lifeguard, K: Ledger>(
     ensures steps { let v = seat_view seat.old in let p = run_at (L.rules guard) v in
         steps.new + steps_at p v.hart state.old.taken ≡ steps.old + steps_at p v.hart (state.old.taken + 1) }
 {
-    match fed.line.what {
+    match entry.what {
         Record::Notice { hart: _, of: _ } => state.take_notice(monitor, seat, guard),
         Record::Event(event) => {
             let at = EventPlace {
-                place: fed.place,
+                place: entry.place,
                 hart: event.hart,
-                number: fed.event_number,
+                number: entry.event_number,
             };
             state.take_event(monitor, seat, guard, at, event.kind, steps)
         }
@@ -81,8 +84,10 @@ impl<L: Lifeguard> Worker<L> {
             self.told = tell_all(monitor, &mut self.seat, self.guard, &mut self.state);
             return if self.ended { Turn::Done } else { Turn::Dry };
         }
-        let fed = self.stream.get(taken - self.before);
-        if let Some(short) = first_short(monitor, &mut self.seat, &fed.needs) {
+        let at = taken - self.before;
+        let entry = self.stream.get(at);
+        let needs = self.stream.needs(at);
+        if let Some(short) = short_of(monitor, &mut self.seat, &needs) {
             self.told = tell_all(monitor, &mut self.seat, self.guard, &mut self.state);
             return short.answer();
         }
@@ -96,7 +101,7 @@ impl<L: Lifeguard> Worker<L> {
             &mut self.seat,
             self.guard,
             &mut self.state,
-            &fed,
+            entry,
             steps,
         );
         Turn::Moved

@@ -1,20 +1,21 @@
 //! The records that a worker is fed, and forgets.
-ghost use Rattle.std.specs.Prelude.{◌≡◌, ◌+◌, ◌≤◌, ◌++◌, List, OnOk, length, take};
-ghost use Rattle.pl_event.specs.declared.fed.Fed.{Fed};
+ghost use Rattle.std.specs.Prelude.{◌≡◌, ◌+◌, ◌≤◌, ◌++◌, List, OnOk, length, map, take};
+ghost use Rattle.lifeguard_worker.specs.Rows.{Item, item_of};
 
+use crate::rows::Rows;
 use crate::worker::Worker;
 use lifeguard::Lifeguard;
-use pl_event::{Fed, Feds};
+use pl_event::Fed;
 use std::alloc::AllocError;
 use turn_worker::TurnWorker;
 
 /// Adds the records that follow the first `from` ones of a stream, where they are not there yet.
-pub(crate) fn add_fed(stream: &mut Feds, from: usize, fed: &[Fed]) -> Result<(), AllocError>
-    requires next { (whole : List Fed) × (take (length stream.old) whole ≡ stream.old)
-        × (take (from + length fed.now) whole ≡ take from stream.old ++ fed.now) }
+pub(crate) fn add_fed(stream: &mut Rows, from: usize, fed: &[Fed]) -> Result<(), AllocError>
+    requires next { (whole : List Item) × (take (length stream.old) whole ≡ stream.old)
+        × (take (from + length fed.now) whole ≡ take from stream.old ++ map item_of fed.now) }
     requires inside { from ≤ length stream.old }
-    ensures begins { (whole : List Fed) → take (length stream.old) whole ≡ stream.old
-        → take (from + length fed.now) whole ≡ take from stream.old ++ fed.now
+    ensures begins { (whole : List Item) → take (length stream.old) whole ≡ stream.old
+        → take (from + length fed.now) whole ≡ take from stream.old ++ map item_of fed.now
         → take (length stream.new) whole ≡ stream.new }
     ensures more { length stream.old ≤ length stream.new }
     ensures all { OnOk result (from + length fed.now ≤ length stream.new) }
@@ -24,7 +25,7 @@ pub(crate) fn add_fed(stream: &mut Feds, from: usize, fed: &[Fed]) -> Result<(),
         if from + i < len {
             continue;
         }
-        stream.push(fed[i])?;
+        stream.push(&fed[i])?;
     }
     Ok(())
 }
@@ -37,7 +38,7 @@ impl<L: Lifeguard> Worker<L> {
     {
         if self.state.taken as usize == self.fed {
             self.before = self.fed;
-            self.stream = Feds::new(self.alloc);
+            self.stream = Rows::new(self.alloc);
         }
     }
 }

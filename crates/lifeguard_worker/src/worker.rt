@@ -2,9 +2,9 @@
 ghost use Rattle.guard_table.specs.Seats.{seat_view};
 ghost use Rattle.lifeguard_worker.specs.Workers.{IsWorker};
 
+use crate::rows::Rows;
 use guard_table::GuardSeat;
 use lifeguard::Lifeguard;
-use pl_event::Feds;
 use std::alloc::Global;
 use worker_records::State;
 
@@ -20,7 +20,7 @@ pub struct Worker<L: Lifeguard> {
     /// How many first records of the hart's stream are forgotten.
     pub(crate) before: usize,
     /// The records after these. Those from `fed` on came in a list that was refused.
-    pub(crate) stream: Feds,
+    pub(crate) stream: Rows,
     /// How many records of the hart's stream were fed.
     pub(crate) fed: usize,
     pub(crate) ended: bool,

@@ -9,11 +9,11 @@ take_event-requires-clause-next g c =
     let fed = c.requires.fed in
     record {
       ready = c.requires.ready;
-      is = event_kind (run_at (g.L.Lifeguard.rules c.args.guard) v) v.hart fed.0 _ fed.1 fed.2 c.args.fed.now fed.3 c.in-Event.event c.in-Event.is;
+      is = event_kind (run_at (g.L.Lifeguard.rules c.args.guard) v) v.hart fed.0 _ fed.1 fed.2 c.args.entry fed.3 c.in-Event.event c.in-Event.is;
     }
 
 pub take_event-requires-clause-told : goal.take_event-requires-clause-told
 take_event-requires-clause-told g c =
     let v = seat_view c.args.seat.now in
     let fed = c.requires.fed in
-    event_told (run_at (g.L.Lifeguard.rules c.args.guard) v) v.hart fed.0 _ fed.1 fed.2 c.args.fed.now fed.3 c.in-Event.event c.in-Event.is c.requires.ready.run
+    event_told (run_at (g.L.Lifeguard.rules c.args.guard) v) v.hart fed.0 _ fed.1 fed.2 c.args.entry fed.3 c.in-Event.event c.in-Event.is c.requires.ready.run

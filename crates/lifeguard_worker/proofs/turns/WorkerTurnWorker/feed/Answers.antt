@@ -1,8 +1,9 @@
-use Rattle.std.proofs.Common.{◌≡◌, ℕ, ◌+◌, ◌-◌, ◌++◌, List, drop, length, take, sym, ap, subst, arith}
+use Rattle.std.proofs.Common.{◌≡◌, ℕ, ◌+◌, ◌-◌, ◌++◌, List, drop, length, map, take, sym, ap, subst, arith}
 use Rattle.pl_event.specs.declared.fed.Fed.{Fed}
 use Rattle.guard_table.specs.Seats.{seat_view}
 use Rattle.turn_worker.specs.Workers.{IsNextFed, WorkerView}
-use Rattle.lifeguard_worker.specs.Workers.{IsWorker, stream_of, table_of}
+use Rattle.lifeguard_worker.specs.Rows.{item_of}
+use Rattle.lifeguard_worker.specs.Workers.{IsWorker, items_of, table_of}
 use Rattle.lifeguard_worker.proofs.FeedingLemmas.{fed_small, next_kept, worker_fed, worker_grown}
 use Rattle.lifeguard_worker.proofs.turns.WorkerTurnWorker.feed.Goals as goal
 
@@ -13,9 +14,9 @@ add_fed-requires-clause-next g c =
     let items = c.args.fed.items in
     let next = subst (λ (z : WorkerView). IsNextFed z items) (sym c.forget.ensures) c.requires in
     let kept = next_kept (g.L.Lifeguard.rules w.guard) (table_of w.seat) v w.state w.told w.before w.stream w.fed w.ended w.is items next in (
-      drop w.before (stream_of v),
+      drop w.before (items_of v),
       w.is.follows,
-      subst (λ (z : List Fed). take (w.fed - w.before + length z) (drop w.before (stream_of v)) ≡ take (w.fed - w.before) w.stream ++ z) (sym c.deref.ensures.value) kept,
+      subst (λ (z : List Fed). take (w.fed - w.before + length z) (drop w.before (items_of v)) ≡ take (w.fed - w.before) w.stream ++ map item_of z) (sym c.deref.ensures.value) kept,
     )
 
 pub overflow_add-self : goal.overflow_add-self
@@ -33,8 +34,8 @@ invariant_of-self g c =
     let items = c.args.fed.items in
     let next = subst (λ (z : WorkerView). IsNextFed z items) (sym c.forget.ensures) c.requires in
     let kept = next_kept rules (table_of w.seat) v w.state w.told w.before w.stream w.fed w.ended w.is items next in
-    let begins = c.add_fed.ensures.begins (drop w.before (stream_of v)) w.is.follows
-    (subst (λ (z : List Fed). take (w.fed - w.before + length z) (drop w.before (stream_of v)) ≡ take (w.fed - w.before) w.stream ++ z) (sym c.deref.ensures.value) kept) in
+    let begins = c.add_fed.ensures.begins (drop w.before (items_of v)) w.is.follows
+    (subst (λ (z : List Fed). take (w.fed - w.before + length z) (drop w.before (items_of v)) ≡ take (w.fed - w.before) w.stream ++ map item_of z) (sym c.deref.ensures.value) kept) in
     let same = ap (λ (z : List Fed). length z) c.deref.ensures.value in
     let len : length items ≡ c.len.result = omega (arith, c.len.ensures, c.args.fed.ok.0) in
     record {
@@ -50,6 +51,6 @@ invariant_of-self-in-Err g c =
     let items = c.args.fed.items in
     let next = subst (λ (z : WorkerView). IsNextFed z items) (sym c.forget.ensures) c.requires in
     let kept = next_kept rules (table_of w.seat) v w.state w.told w.before w.stream w.fed w.ended w.is items next in
-    let begins = c.add_fed.ensures.begins (drop w.before (stream_of v)) w.is.follows
-    (subst (λ (z : List Fed). take (w.fed - w.before + length z) (drop w.before (stream_of v)) ≡ take (w.fed - w.before) w.stream ++ z) (sym c.deref.ensures.value) kept) in
+    let begins = c.add_fed.ensures.begins (drop w.before (items_of v)) w.is.follows
+    (subst (λ (z : List Fed). take (w.fed - w.before + length z) (drop w.before (items_of v)) ≡ take (w.fed - w.before) w.stream ++ map item_of z) (sym c.deref.ensures.value) kept) in
     record { is = worker_grown rules v w.state w.told w.before w.stream c.add_fed.new.stream w.fed w.ended w.is begins c.add_fed.ensures.more }

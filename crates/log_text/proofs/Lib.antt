@@ -20,3 +20,4 @@ pub mod WriteLemmas
 pub mod WholeLines
 pub mod Fronts
 pub mod StreamLemmas
+pub mod HexDigits

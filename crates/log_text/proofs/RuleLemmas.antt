@@ -1,5 +1,5 @@
 -- Tests of lists, and the rules one by one.
-use Rattle.std.proofs.Common.{◌≡◌, ℕ, zero, suc, ◌+◌, Bool, true, false, not, cond, eqb, ltb, leb, ◌<◌, ◌≤◌, ◌||◌, List, [], ◌∷◌, count_by, find, length, get_or, Option, Some, None, inl, inr, refl, sym, ap, arith}
+use Rattle.std.proofs.Common.{◌≡◌, ℕ, zero, suc, ◌+◌, Bool, true, false, not, cond, eqb, ltb, leb, ◌<◌, ◌≤◌, ◌||◌, List, [], ◌∷◌, count_by, find, length, get_or, Option, Some, None, inl, inr, refl, ap, arith}
 use Rattle.std.proofs.lemmas.Bool.{false≢true, or_cases, or_parts, or_left, or_right, ne_eqb, leb-false}
 use Rattle.std.proofs.lemmas.List.Sums.{sum_by-cons}
 use Rattle.std.specs.List.{list_any}

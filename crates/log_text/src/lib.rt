@@ -6,6 +6,7 @@
 #![tactic(auto)]
 
 mod cause;
+mod digits;
 mod faults;
 mod grow;
 mod judge;

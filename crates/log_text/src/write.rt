@@ -2,11 +2,13 @@
 
 ghost use Rattle.std.specs.Prelude.{◌≡◌, ◌<◌, ◌^◌, ◌++◌, ◌∷◌, ℕ, suc, true, List, Option, All, length, map, IfOk, OnOk, string_bytes};
 ghost use Rattle.std.specs.List.{join_with_byte};
+ghost use Rattle.std.specs.Fmt.{decimal};
 ghost use Rattle.pl_event.specs.declared.log.Line.{Line};
-ghost use Rattle.log_grammar.specs.Spelling.{page, row_of, kind_words, record_words, load_word, store_word, fault_word, page_word, point_word, header_text, line_text, entry_text, entries_text, log_spelling, points_from};
+ghost use Rattle.log_grammar.specs.Spelling.{hex, page, row_of, kind_words, record_words, load_word, store_word, fault_word, page_word, point_word, header_text, line_text, entry_text, entries_text, log_spelling, points_from};
 ghost use Rattle.log_text.specs.WellFormed.{IsWellFormed, IsWritable, IsLogText};
 ghost use Rattle.log_text.specs.Writing.{arcs_text};
 
+use crate::digits::{push_decimal, push_hex};
 use pl_base::{FaultCause, LoadWidth, NoMemory, StoreWidth};
 use pl_event::{Arcs, Kind, Line, Lines, Log, PageKind, PageRun, Point, Record};
 use std::alloc::{AllocError, Global};
@@ -84,22 +86,57 @@ fn write_record(out: &mut String, what: Record) -> Result<(), AllocError>
 {
     match what {
         Record::Event(event) => {
-            let hart = event.hart;
-            write!(out, "h{hart} ")?;
+            push_decimal(out, "h", u32::from(event.hart))?;
+            out.push_str(" ")?;
             write_kind(out, event.kind)
         }
         Record::Notice { hart, of } => {
-            write!(out, "h{hart} ! ")?;
-            write_point(out, of)
+            push_decimal(out, "h", u32::from(hart))?;
+            write_point(out, " ! ", of)
         }
     }
 }
 
-fn write_point(out: &mut String, point: Point) -> Result<(), AllocError>
-    ensures { OnOk result (string_bytes out.new ≡ string_bytes out.old ++ point_word point) }
+/// Text, and a point after it.
+fn write_point(out: &mut String, before: &str, point: Point) -> Result<(), AllocError>
+    ensures { OnOk result (string_bytes out.new ≡ string_bytes out.old ++ before.now ++ point_word point) }
 {
-    let Point { hart, number } = point;
-    write!(out, "{hart}:{number}")
+    push_decimal(out, before, u32::from(point.hart))?;
+    push_decimal(out, ":", point.number)
+}
+
+/// A word, and a register after it.
+fn write_register(out: &mut String, word: &str, r: u8) -> Result<(), AllocError>
+    ensures { OnOk result (string_bytes out.new ≡ string_bytes out.old ++ word.now ++ decimal r) }
+{
+    push_decimal(out, word, u32::from(r))
+}
+
+/// A word, and two registers after it.
+fn write_registers(out: &mut String, word: &str, r: u8, other: u8) -> Result<(), AllocError>
+    ensures { OnOk result (string_bytes out.new
+        ≡ string_bytes out.old ++ word.now ++ decimal r ++ 32 ∷ decimal other) }
+{
+    write_register(out, word, r)?;
+    write_register(out, " ", other)
+}
+
+/// A word, and a run of bytes after it.
+fn write_run(out: &mut String, word: &str, addr: u32, len: u32) -> Result<(), AllocError>
+    ensures { OnOk result (string_bytes out.new
+        ≡ string_bytes out.old ++ word.now ++ hex addr ++ 32 ∷ decimal len) }
+{
+    push_hex(out, word, addr)?;
+    push_decimal(out, " ", len)
+}
+
+/// A word, and a run of pages after it.
+fn write_paging(out: &mut String, word: &str, first: u16, count: u16) -> Result<(), AllocError>
+    ensures { OnOk result (string_bytes out.new
+        ≡ string_bytes out.old ++ word.now ++ decimal first ++ 32 ∷ decimal count) }
+{
+    push_decimal(out, word, u32::from(first))?;
+    push_decimal(out, " ", u32::from(count))
 }
 
 fn write_kind(out: &mut String, kind: Kind) -> Result<(), AllocError>
@@ -118,18 +155,21 @@ fn write_kind(out: &mut String, kind: Kind) -> Result<(), AllocError>
             rb,
             addr,
         } => write_store(out, width, rv, rb, addr),
-        Kind::Op { rd, r1, r2 } => write!(out, "op {rd} {r1} {r2}"),
-        Kind::Mv { rd, rs } => write!(out, "mv {rd} {rs}"),
-        Kind::Im { rd } => write!(out, "im {rd}"),
-        Kind::Br { r1, r2 } => write!(out, "br {r1} {r2}"),
-        Kind::Jr { rd, rs } => write!(out, "jr {rd} {rs}"),
-        Kind::Al { addr, len } => write!(out, "al {addr:x} {len}"),
-        Kind::Fr { addr, len } => write!(out, "fr {addr:x} {len}"),
-        Kind::Bf { addr } => write!(out, "bf {addr:x}"),
-        Kind::Mp { page, count } => write!(out, "mp {page} {count}"),
-        Kind::Um { page, count } => write!(out, "um {page} {count}"),
-        Kind::Rd { addr, len } => write!(out, "rd {addr:x} {len}"),
-        Kind::Wr { addr, len } => write!(out, "wr {addr:x} {len}"),
+        Kind::Op { rd, r1, r2 } => {
+            write_register(out, "op ", rd)?;
+            write_registers(out, " ", r1, r2)
+        }
+        Kind::Mv { rd, rs } => write_registers(out, "mv ", rd, rs),
+        Kind::Im { rd } => write_register(out, "im ", rd),
+        Kind::Br { r1, r2 } => write_registers(out, "br ", r1, r2),
+        Kind::Jr { rd, rs } => write_registers(out, "jr ", rd, rs),
+        Kind::Al { addr, len } => write_run(out, "al ", addr, len),
+        Kind::Fr { addr, len } => write_run(out, "fr ", addr, len),
+        Kind::Bf { addr } => push_hex(out, "bf ", addr),
+        Kind::Mp { page, count } => write_paging(out, "mp ", page, count),
+        Kind::Um { page, count } => write_paging(out, "um ", page, count),
+        Kind::Rd { addr, len } => write_run(out, "rd ", addr, len),
+        Kind::Wr { addr, len } => write_run(out, "wr ", addr, len),
         Kind::Ex => out.push_str("ex"),
         Kind::Ft { cause, addr } => write_fault(out, cause, addr),
     }
@@ -145,8 +185,10 @@ fn write_load(
     ensures { OnOk result (string_bytes out.new
         ≡ string_bytes out.old ++ join_with_byte 32 (kind_words (Kind.Ld width rd rb addr))) }
 {
-    let word = load_word(width);
-    write!(out, "ld {word} {rd} {rb} {addr:x}")
+    out.push_str("ld ")?;
+    out.push_str(load_word(width))?;
+    write_registers(out, " ", rd, rb)?;
+    push_hex(out, " ", addr)
 }
 
 fn load_word(width: LoadWidth) -> &'static str
@@ -171,8 +213,10 @@ fn write_store(
     ensures { OnOk result (string_bytes out.new
         ≡ string_bytes out.old ++ join_with_byte 32 (kind_words (Kind.St width rv rb addr))) }
 {
-    let word = store_word(width);
-    write!(out, "st {word} {rv} {rb} {addr:x}")
+    out.push_str("st ")?;
+    out.push_str(store_word(width))?;
+    write_registers(out, " ", rv, rb)?;
+    push_hex(out, " ", addr)
 }
 
 fn store_word(width: StoreWidth) -> &'static str
@@ -189,8 +233,9 @@ fn write_fault(out: &mut String, cause: FaultCause, addr: u32) -> Result<(), All
     ensures { OnOk result (string_bytes out.new
         ≡ string_bytes out.old ++ join_with_byte 32 (kind_words (Kind.Ft cause addr))) }
 {
-    let word = fault_word(cause);
-    write!(out, "ft {word} {addr:x}")
+    out.push_str("ft ")?;
+    out.push_str(fault_word(cause))?;
+    push_hex(out, " ", addr)
 }
 
 fn fault_word(cause: FaultCause) -> &'static str
@@ -233,6 +278,6 @@ fn write_arc(
         return Ok(first);
     };
     let front = if first { " < " } else { "," };
-    write!(out, "{front}{hart}:{number}")?;
+    write_point(out, front, Point { hart, number })?;
     Ok(false)
 }

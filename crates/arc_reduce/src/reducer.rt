@@ -2,6 +2,7 @@
 ghost use Rattle.std.specs.Prelude.{◌≡◌, ℕ, ◌+◌, ◌^◌, ◌<◌, ◌≤◌, [], List, length, IfOk, OnErr, IsTrue, false, Some, None, slice_index, slice_index_or};
 ghost use Rattle.pl_base.specs.declared.layout.TheConstants.{MAX_HARTS};
 ghost use Rattle.pl_event.specs.declared.log.Line.{Line};
+ghost use Rattle.pl_event.specs.Edges.{no_arcs};
 ghost use Rattle.pl_event.specs.Numbers.{hart_of};
 ghost use Rattle.log_clocks.specs.Clocks.{slots};
 ghost use Rattle.arc_reduce.specs.Reduction.{AreChosen, IsChosen, IsSpare};
@@ -109,6 +110,23 @@ impl Reducer {
         Ok(())
     }
 
+    // Takes the next line, which has no candidates, mostly without a look at the other harts.
+    fn pass_bare(&mut self, line: &Line, hart: u8) -> Result<(), NoMemory>
+        requires hart { hart ≡ hart_of line.now.what }
+        requires taken { (full : List Line) × MayTake self.old full line.now no_arcs }
+        ensures ok { (full : List Line) → MayTake self.old full line.now no_arcs →
+            IfOk result (λ _. HasTaken self.new (with_line full line.now no_arcs)) }
+        ensures harts { self.new.harts ≡ self.old.harts }
+        ensures err { OnErr result (HasSameState self.old self.new) }
+    {
+        if !self.heads.is_unnoticed(hart) {
+            return self.pass(line, hart, &Arcs::none());
+        }
+        self.clocks.next_alone(hart)?;
+        self.heads.pass(line);
+        Ok(())
+    }
+
     /// The candidates of the next line that its log keeps as arcs: all but those whose source reaches the line by a
     /// path that does not use them, where the line has its other candidates too. The line has no arcs, is of a hart of
     /// the run and breaks no rule of notices; a candidate is an earlier record of another hart, and fewer than
@@ -122,6 +140,11 @@ impl Reducer {
         ensures err { OnErr result (HasSameState self.old self.new) }
     {
         let hart = record_hart(&line.what);
+        let none = Arcs::none();
+        if *candidates == none {
+            self.pass_bare(line, hart)?;
+            return Ok(none);
+        }
         let kept = self.chosen(line, hart, candidates);
         self.pass(line, hart, candidates)?;
         Ok(kept)

@@ -1,5 +1,5 @@
 //! The clocks of all records so far.
-ghost use Rattle.std.specs.Prelude.{◌≡◌, ℕ, suc, ◌+◌, ◌^◌, ◌<◌, ◌≤◌, [], ◌∷◌, ◌++◌, List, length, take, false, IfOk, OnErr, OnOk, slice_index, slice_index_or};
+ghost use Rattle.std.specs.Prelude.{◌≡◌, ◌↔◌, ℕ, suc, ◌+◌, ◌^◌, ◌<◌, ◌≤◌, [], ◌∷◌, ◌++◌, List, length, take, IsTrue, false, IfOk, OnErr, OnOk, slice_index, slice_index_or};
 ghost use Rattle.pl_event.specs.declared.log.Line.{Line};
 ghost use Rattle.pl_event.specs.Edges.{IsFlow, Into, no_arcs};
 ghost use Rattle.pl_event.specs.Graph.{IsClock};
@@ -23,7 +23,7 @@ pub struct Clocks {
 
 impl Clocks {
     ghost use Rattle.log_clocks.specs.Clocks.{time, slots, kept_at, slot_of, known, HasClocks, HasSameClocks};
-    ghost use Rattle.log_clocks.specs.inner.Joins.{IsJoin};
+    ghost use Rattle.log_clocks.specs.inner.Joins.{IsJoin, IsClosed};
 
     /// Of no record.
     pub fn new(alloc: Global) -> Result<Clocks, NoMemory>
@@ -89,17 +89,21 @@ impl Clocks {
         }
     }
 
-    // The clock of a hart's last record, raised by those of the records that are needed, and whether one was.
+    // The clock of a hart's last record, raised by those of the records that are needed, and whether one was. A record
+    // that is known already has nothing new.
     fn joined(&self, clock: Clock, needs: &Arcs) -> (Clock, bool)
-        ensures joined { IsJoin needs.now 8 (known self.now) (time clock) (time result.0) }
+        ensures joined { IsClosed needs.now (known self.now) (time clock) →
+            IsJoin needs.now 8 (known self.now) (time clock) (time result.0) }
         ensures same { result.1 ≡ false → result.0 ≡ clock }
     {
         let mut joined = clock;
         let mut is_raised = false;
         for u in 0..8u8 {
             if let Some(number) = needs.get(u) {
-                joined.raise(&self.of(u, number));
-                is_raised = true;
+                if joined.get(u) < number {
+                    joined.raise(&self.of(u, number));
+                    is_raised = true;
+                }
             }
         }
         (joined, is_raised)
@@ -204,6 +208,45 @@ impl Clocks {
         if u == hart { number + 1 } else { entry }
     }
 
+    /// Whether the clock of the next record, of this hart, knows the record of another hart u with this number, where the
+    /// next record needs these records of other harts. A clock of another hart is looked at only for a record that the
+    /// hart's last record does not know.
+    pub fn next_knows(&self, hart: u8, needs: &Arcs, u: u8, number: u32) -> bool
+        requires hart { hart < 8 }
+        requires u { u < 8 }
+        requires other { u ≡ hart → ⊥ }
+        requires few { length (slots self.now hart) + 1 < 2 ^ 32 }
+        ensures { (harts : ℕ) (lines : List Line) (i : ℕ) (line : Line) →
+            IsFlow harts lines → harts ≤ 8 → HasClocks self.now lines i → IsNext lines i hart line →
+            needs.now ≡ needs_of lines hart (records_before hart lines i + 1) →
+            (clock : ℕ → ℕ) × IsClock (Into lines) hart (records_before hart lines i + 1) clock
+            × (IsTrue result ↔ number ≤ clock u) }
+    {
+        let last = self.of(hart, self.count(hart) as u32);
+        if last.get(u) >= number {
+            return true;
+        }
+        for w in 0..8u8 {
+            if let Some(needed) = needs.get(w) {
+                if last.get(w) < needed && self.entry(w, needed, u) >= number {
+                    return true;
+                }
+            }
+        }
+        false
+    }
+
+    /// The number that the clock of a hart's last record has for hart u.
+    #[inline(always)]
+    pub fn last_entry(&self, hart: u8, u: u8) -> u32
+        requires hart { hart < 8 }
+        requires u { u < 8 }
+        requires few { length (slots self.now hart) < 2 ^ 32 }
+        ensures { result ≡ known self.now hart (length (slots self.now hart)) u }
+    {
+        self.entry(hart, self.count(hart) as u32, u)
+    }
+
     /// Takes the next record, of this hart, which needs no record of another hart, and gives its clock.
     /// Without memory the clocks stay as they were.
     #[inline(always)]
@@ -241,7 +284,7 @@ impl Clocks {
         let number = self.count(hart) as u32;
         let last = self.slot(hart, number);
         let count = self.clocks();
-        let (mut clock, is_raised) = self.joined(self.clock_in(last), needs);
+        let (mut clock, is_raised) = self.joined(self.of(hart, number), needs);
         clock.set(hart, number + 1);
         let slot = if is_raised { self.keep(clock)? } else { last };
         self.add(hart, slot, count)?;

@@ -7,8 +7,9 @@ use Rattle.pl_event.specs.Records.{records_before}
 use Rattle.log_clocks.specs.declared.clock.Clock.{Clock}
 use Rattle.log_clocks.specs.declared.clocks.Clocks.{Clocks}
 use Rattle.log_clocks.specs.Clocks.{time, slots, slots_in, slot_of, clock_at, kept_at, known}
-use Rattle.log_clocks.specs.inner.Joins.{IsJoin}
+use Rattle.log_clocks.specs.inner.Joins.{IsJoin, IsClosed}
 use Rattle.log_clocks.proofs.RecordClocks.{clock_here}
+use Rattle.log_clocks.proofs.Knowing.{closed}
 use Rattle.log_clocks.proofs.Keeping.{front_again, whole_again, kept_anyway, known_last, has_more}
 use Rattle.log_clocks.proofs.clocks.Clocks.next.Goals.{then-is_raised+in_ok-slot, else-is_raised}
 use Rattle.log_clocks.proofs.clocks.Clocks.next.Goals as goal
@@ -44,12 +45,14 @@ returns-clause-ok c harts g i line flow few has next need = (
     itself : time c.set.new.self c.args.hart ≡ records_before c.args.hart g i + 1
     itself = c.set.ensures.here ∙ ap (λ (z : ℕ). z + 1) number
 
-    started : (u : ℕ) → (u ≡ c.args.hart → ⊥) → time c.clock_in.result u ≡ known c.args.self.now c.args.hart (records_before c.args.hart g i) u
-    started u ne = c.clock_in.ensures u ∙ (ap (λ (z : ℕ). time (kept_at c.args.self.now z) u) last ∙ known_last c.args.self.now g i c.args.hart (records_before c.args.hart g i) u has ne)
+    started : (u : ℕ) → time c.of.result u ≡ known c.args.self.now c.args.hart (records_before c.args.hart g i) u
+    started u = c.of.ensures u ∙ ap (λ (z : ℕ). known c.args.self.now c.args.hart z u) number
 
     clock : IsClock (Into g) c.args.hart (records_before c.args.hart g i + 1) (time c.set.new.self)
-    clock = clock_here harts g flow few i c.args.hart line next (known c.args.self.now) has.right (time c.clock_in.result) (time c.joined-is_raised.result.0) (time c.set.new.self) started
-        (subst (λ (z : List (Option ℕ)). IsJoin z 8 (known c.args.self.now) (time c.clock_in.result) (time c.joined-is_raised.result.0)) need c.joined-is_raised.ensures.joined)
+    clock = clock_here harts g flow few i c.args.hart line next (known c.args.self.now) has.right (time c.of.result) (time c.joined-is_raised.result.0) (time c.set.new.self) (λ u ne. started u)
+        (subst (λ (z : List (Option ℕ)). IsJoin z 8 (known c.args.self.now) (time c.of.result) (time c.joined-is_raised.result.0)) need
+        (c.joined-is_raised.ensures.joined (subst (λ (z : List (Option ℕ)). IsClosed z (known c.args.self.now) (time c.of.result)) (sym need)
+        (closed c.args.self.now harts g flow few i c.args.hart line next has (time c.of.result) started))))
         itself c.set.ensures.others
 
     raised : (now : Clocks) (slot : ℕ) → now.slots ≡ c.args.self.now.slots → (slot ≡ length c.args.self.now.kept.items) × (now.kept.items ≡ c.args.self.now.kept.items ++ c.set.new.self ∷ []) → Kept c.args.self.now c.args.hart c.set.new.self now slot
@@ -71,7 +74,8 @@ returns-clause-ok c harts g i line flow few has next need = (
         kept = λ s l. refl;
         longer = omega arith;
         there = (let l : slot_of c.args.self.now c.args.hart (records_before c.args.hart g i) < length c.args.self.now.kept.items = has.within c.args.hart (records_before c.args.hart g i) in let e : c.slot-last.result ≡ slot_of c.args.self.now c.args.hart (records_before c.args.hart g i) = last in omega arith);
-        same = λ u ne. sym (c.clock_in.ensures u) ∙ (ap (λ (z : Clock). time z u) (sym (c.joined-is_raised.ensures.same w.if-is_raised.false)) ∙ sym (c.set.ensures.others u ne));
+        same = λ u ne. ap (λ (z : ℕ). time (kept_at c.args.self.now z) u) last ∙ (known_last c.args.self.now g i c.args.hart (records_before c.args.hart g i) u has ne
+            ∙ (sym (started u) ∙ (ap (λ (z : Clock). time z u) (sym (c.joined-is_raised.ensures.same w.if-is_raised.false)) ∙ sym (c.set.ensures.others u ne))));
       })
     ]
 

@@ -1,23 +1,23 @@
 -- What a reducer's heads and clocks tell of the next line.
-use Rattle.std.proofs.Common.{◌≡◌, ℕ, ◌+◌, ◌^◌, ◌<◌, ◌≤◌, ◌++◌, List, [], ◌∷◌, length, slice_index, slice_index_or, set, get_or-set_same, get_or-set_other, Option, Some, None, refl, sym, ap, ◌∙◌, subst, arith, lt_of_not-le}
+use Rattle.std.proofs.Common.{inl, inr, ◌≡◌, ℕ, ◌+◌, ◌^◌, ◌<◌, ◌≤◌, ◌++◌, List, [], ◌∷◌, length, slice_index, slice_index_or, set, get_or-set_same, get_or-set_other, Option, Some, None, refl, sym, ap, ◌∙◌, subst, arith, lt_of_not-le}
 use Rattle.std.proofs.lemmas.List.{get_or_past}
 use mathlib.Core.Logic.{dite}
 use native.Mathlib.Decide.{dec_le}
 use Rattle.pl_event.specs.declared.log.Line.{Line}
 use Rattle.pl_event.specs.Edges.{Into, IsFlow, arc_of}
-use Rattle.pl_event.specs.Graph.{IsClock}
+use Rattle.pl_event.specs.Graph.{Path, Reach, one, more, IsClock}
 use Rattle.pl_event.specs.Heads.{IsNext, Tells}
 use Rattle.pl_event.specs.Numbers.{hart_of}
 use Rattle.pl_event.specs.Records.{records_before}
 use Rattle.pl_event.proofs.Before.{room}
 use Rattle.pl_event.proofs.Places.{before_most}
-use Rattle.log_clocks.specs.Clocks.{slots, HasClocks}
+use Rattle.log_clocks.specs.Clocks.{slots, known, HasClocks}
 use Rattle.log_clocks.proofs.Grown.{at_end, before_same, tells_on, clocks_on}
 use Rattle.arc_reduce.specs.declared.reducer.Reducer.{Reducer}
 use Rattle.arc_reduce.specs.Reduction.{IsSpare, IsChosen}
 use Rattle.arc_reduce.specs.Taken.{MayTake, with_arcs, with_line, next_number}
 use Rattle.arc_reduce.proofs.Ends.{number, last_record, longer, next_line}
-use Rattle.arc_reduce.proofs.Spare.{no_some, flow_without, known_spare, spare_known}
+use Rattle.arc_reduce.proofs.Spare.{no_some, spare_of, flow_without, known_spare, spare_known}
 
 -- there is room for one line more
 pub record HasRoom (r : Reducer) (h : ℕ) : Type 0 where
@@ -78,6 +78,41 @@ module _ (r : Reducer) (full : List Line) (line : Line) (candidates : List (Opti
 
     pub flow_but : IsFlow r.harts (full ++ y ∷ [])
     flow_but = flow_without full x y refl u n has none others r.harts may.flow
+
+    source : (u < r.harts) × (u ≡ hart_of line.what → ⊥) × (1 ≤ n)
+    source =
+        let a = may.flow.arcs (length full) (hart_of line.what) (number full x) x (last_record full x) u n has in
+        (a.0, a.1, a.2)
+
+    -- it is of another hart
+    pub apart : (h : ℕ) → h ≡ hart_of line.what → u ≡ h → ⊥
+    apart h own e = source.1 (e ∙ own)
+
+    -- what the hart's last record knows
+    pub is_spare_before : (h : ℕ) (own : h ≡ hart_of line.what) → n ≤ known r.clocks h (length (slots r.clocks h)) u → IsSpare F u n h (next_number full line)
+    is_spare_before h own l = subst (λ (z : ℕ). IsSpare F u n z (next_number full line)) (sym own) (spare_of full x y refl u n has none others path)
+      where
+        G : List Line
+        G = full ++ y ∷ []
+
+        m : ℕ
+        m = records_before h G (length full)
+
+        has_clocks : HasClocks r.clocks G (length full)
+        has_clocks = clocked arcs flow_but h own
+
+        count : length (slots r.clocks h) ≡ m
+        count = has_clocks.numbers h (has_room h own).hart
+
+        on : Reach (Into G) u n h m → Path (Into G) u n h (m + 1)
+        on (inl s) = one (inl (s.0, ap (λ (z : ℕ). z + 1) s.1))
+        on (inr p) = more p (inl (refl, refl))
+
+        known_path : Path (Into G) u n h (m + 1)
+        known_path = on ((has_clocks.right h m (omega arith)).told u n source.2 (subst (λ (z : ℕ). n ≤ known r.clocks h z u) count l))
+
+        path : Path (Into G) u n (hart_of line.what) (next_number full line)
+        path = subst (λ (z : ℕ × ℕ). Path (Into G) u n z.0 z.1) (λ d. (own d, number_is arcs flow_but h own d)) known_path
 
     module _ (h : ℕ) (own : h ≡ hart_of line.what) (clock : ℕ → ℕ) (clocks : IsClock (Into (full ++ y ∷ [])) h (records_before h (full ++ y ∷ []) (length full) + 1) clock) where
       here : IsClock (Into (full ++ y ∷ [])) (hart_of line.what) (next_number full line) clock

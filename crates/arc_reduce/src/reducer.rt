@@ -35,7 +35,8 @@ impl Reducer {
         })
     }
 
-    // Whether the source of a candidate from hart u reaches the next line, of this hart, without the candidate.
+    // Whether the source of a candidate from hart u reaches the next line, of this hart, without the candidate. Mostly
+    // the hart's own last record knows it, and no clock of another hart is looked at.
     fn is_spare(&self, line: &Line, hart: u8, candidates: &Arcs, u: u8, number: u32) -> bool
         requires u { u < MAX_HARTS }
         requires hart { hart ≡ hart_of line.now.what }
@@ -46,6 +47,9 @@ impl Reducer {
         ensures no { (full : List Line) → MayTake self.now full line.now candidates.now → result ≡ false →
             IsSpare (with_line full line.now candidates.now) u number hart (next_number full line.now) → ⊥ }
     {
+        if self.clocks.last_entry(hart, u) >= number {
+            return true;
+        }
         let mut arcs = *candidates;
         arcs.set(u, None);
         let others = Line {
@@ -53,7 +57,7 @@ impl Reducer {
             arcs,
         };
         let needs = self.heads.needs(&others, hart);
-        self.clocks.next_entry(hart, &needs, u) >= number
+        self.clocks.next_knows(hart, &needs, u, number)
     }
 
     // The candidate of the next line from hart u, if it is not spare.

@@ -186,28 +186,6 @@ impl Clocks {
         self.entry_in(self.slot(hart, number), u)
     }
 
-    /// The number that the clock of the next record, of this hart, has for hart u, where the record needs these records of
-    /// other harts.
-    pub fn next_entry(&self, hart: u8, needs: &Arcs, u: u8) -> u32
-        requires hart { hart < 8 }
-        requires u { u < 8 }
-        requires few { length (slots self.now hart) + 1 < 2 ^ 32 }
-        ensures { (harts : ℕ) (lines : List Line) (i : ℕ) (line : Line) →
-            IsFlow harts lines → harts ≤ 8 → HasClocks self.now lines i → IsNext lines i hart line →
-            needs.now ≡ needs_of lines hart (records_before hart lines i + 1) →
-            (clock : ℕ → ℕ) × IsClock (Into lines) hart (records_before hart lines i + 1) clock × (result ≡ clock u) }
-    {
-        let number = self.count(hart) as u32;
-        let last = self.slot(hart, number);
-        let mut entry = self.entry_in(last, u);
-        for w in 0..8u8 {
-            if let Some(needed) = needs.get(w) {
-                entry = entry.max(self.entry(w, needed, u));
-            }
-        }
-        if u == hart { number + 1 } else { entry }
-    }
-
     /// Whether the clock of the next record, of this hart, knows the record of another hart u with this number, where the
     /// next record needs these records of other harts. A clock of another hart is looked at only for a record that the
     /// hart's last record does not know.

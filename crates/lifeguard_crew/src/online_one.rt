@@ -103,6 +103,7 @@ fn feed_rest<P: Plan, F: Feed, W: TurnWorker, L: Ledger>(
     requires parts { (blank.parts ≡ L.parts) × (0 < blank.parts) }
     ensures same { OnOk result (EachLed IsSameWorker W.view workers.old workers.new) }
     ensures fed { OnOk result (Every (IsFedUpTo []) W.view workers.new) }
+    ensures rest { OnOk result (F.rest feed.new ≡ []) }
 {
     let mut steps = Steps::<L>::new(blank);
     'pieces: loop {
@@ -126,6 +127,7 @@ fn feed_all<P: Plan, F: Feed, W: TurnWorker, L: Ledger>(
     requires parts { (blank.parts ≡ L.parts) × (0 < blank.parts) }
     ensures ready { OnOk result (IsReadyCrew P.planned W.view monitor.now workers.new) }
     ensures same { OnOk result (EachLed IsSameWorker W.view workers.old workers.new) }
+    ensures rest { OnOk result (F.rest feed.new ≡ []) }
 {
     feed_rest::<P, F, W, L>(alloc, monitor, feed, workers, blank)?;
     end_streams(workers);
@@ -146,6 +148,7 @@ fn fed_crew<P: Plan, F: Feed, W: TurnWorker, L: Ledger>(
     requires parts { (blank.parts ≡ L.parts) × (0 < blank.parts) }
     ensures ready { IfOk result (λ ws. IsReadyCrew P.planned W.view monitor.now ws.items) }
     ensures same { IfOk result (λ ws. EachLed IsSameWorker W.view workers.items ws.items) }
+    ensures rest { OnOk result (F.rest feed.new ≡ []) }
 {
     feed_all::<P, F, W, L>(alloc, monitor, feed, workers.as_mut_slice(), blank)?;
     Ok(workers)
@@ -153,7 +156,8 @@ fn fed_crew<P: Plan, F: Feed, W: TurnWorker, L: Ledger>(
 
 /// Feeds the workers the lines of the run, and turns them until all records are taken. It returns, whatever the run.
 ///
-/// It takes at most 64 records from the feed at a time, and turns all workers before it takes more.
+/// It takes at most 64 records from the feed at a time, and turns all workers before it takes more. After an `Ok` the
+/// feed is used up.
 ///
 /// # Errors
 ///
@@ -166,7 +170,8 @@ pub fn run_online_one<P: Plan, F: Feed, W: TurnWorker>(
 ) -> Result<Finished, NoMemory>
     requires crew { IsFreshCrew P.planned W.view monitor.now workers.items }
     requires feed { F.rest feed.old ≡ lines_of P.planned monitor.now }
-    ensures { IfOk result (IsFinished P.planned W.view monitor.now workers.items) }
+    ensures finished { IfOk result (IsFinished P.planned W.view monitor.now workers.items) }
+    ensures rest { OnOk result (F.rest feed.new ≡ []) }
 {
     let ready = fed_crew::<P, F, W, Brand>(alloc, monitor, feed, workers, Blank::new(1))?;
     let finished = run_one_thread(alloc, monitor, ready)?;

@@ -70,6 +70,7 @@ fn feed_counted<P: Plan, N: RunName, F: Feed, W: TurnWorker, G: Gate, R: Wait, L
     ensures outlets { IsTrue result → AreOutlets N.log [] outlets.new }
     ensures whole { IsTrue result → AreWhole N.log outlets.new }
     ensures keeps { IsTrue result → KeepsReaders P.planned W.view monitor.now N.log rings.now.items row.old row.new }
+    ensures rest { IsTrue result → F.rest feed.new ≡ [] }
 {
     let mut steps = Steps::<L>::new(blank);
     let mut waits = 0;
@@ -110,6 +111,7 @@ pub(crate) fn feed_all<P: Plan, N: RunName, F: Feed, W: TurnWorker, G: Gate, R: 
     ensures outlets { IsTrue result → AreOutlets N.log [] outlets.new }
     ensures whole { IsTrue result → AreWhole N.log outlets.new }
     ensures keeps { IsTrue result → KeepsReaders P.planned W.view monitor.now N.log rings.now.items row.old row.new }
+    ensures rest { IsTrue result → F.rest feed.new ≡ [] }
 {
     feed_counted::<P, N, F, W, G, R, Brand>(
         rt,

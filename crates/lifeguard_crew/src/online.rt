@@ -1,5 +1,5 @@
 //! The driver of several threads that feeds its workers through rings.
-ghost use Rattle.std.specs.Prelude.{◌≡◌, ◌<◌, ◌≤◌, ◌∷◌, [], IfOk, IfSome, IsTrue, length};
+ghost use Rattle.std.specs.Prelude.{◌≡◌, ◌<◌, ◌≤◌, ◌∷◌, [], IfOk, OnOk, IfSome, IsTrue, length};
 ghost use Rattle.pl_base.specs.declared.layout.TheConstants.{MAX_HARTS};
 ghost use Rattle.guard_table.specs.Seats.{plan_of};
 ghost use Rattle.lifeguard_crew.specs.Drivers.{IsFinished, IsFreshCrew, IsReadyCrew, lines_of};
@@ -66,6 +66,7 @@ where
     ensures whole { IsTrue result → AreWhole N.log outlets.new }
     ensures passes { IsTrue result →
         ReadersPass P.planned W.view monitor.now N.log rings.now.items (row.old ∷ []) (row.new ∷ []) }
+    ensures rest { IsTrue result → F.rest feed.new ≡ [] }
 {
     let mut threads = Vec::new(alloc);
     if !hand_out(
@@ -131,6 +132,7 @@ where
     ensures len { IfSome result (λ r. length r.1.items ≡ length row.items) }
     ensures passes { IfSome result (λ r.
         ReadersPass P.planned W.view monitor.now N.log rings.now.items (row.items ∷ []) (r.1.items ∷ [])) }
+    ensures rest { IfSome result (λ _. F.rest feed.new ≡ []) }
 {
     if read_apart(
         scope,
@@ -153,9 +155,10 @@ where
     }
 }
 
-// The same in a scope.
+// The same in a scope. It hands the feed back, of which nothing is left.
 fn in_scope<
     'o,
+    'f,
     R: Threads + Wait + Sync,
     P: Plan + Sync,
     N: RunName + Send + Sync,
@@ -169,10 +172,10 @@ fn in_scope<
     rings: &Vec<Ring<N>>,
     gate: &G,
     n: u8,
-    feed: &mut F,
+    feed: &'f mut F,
     outlets: Vec<Outlet<'o, N>>,
     row: Row<N, W>,
-) -> Option<(Vec<Outlet<'o, N>>, Row<N, W>)>
+) -> Option<(Vec<Outlet<'o, N>>, Row<N, W>, &'f mut F)>
 where
     W::Guard: Send,
     requires n { 1 ≤ n }
@@ -183,6 +186,8 @@ where
     ensures len { IfSome result (λ r. length r.1.items ≡ length row.items) }
     ensures passes { IfSome result (λ r.
         ReadersPass P.planned W.view monitor.now N.log rings.now.items (row.items ∷ []) (r.1.items ∷ [])) }
+    ensures feed { IfSome result (λ r. r.2.ghost_name ≡ feed.entry.ghost_name) }
+    ensures rest { IfSome result (λ r. F.rest r.2.now ≡ []) }
 {
     let stop_cell = AtomicCell::new(0u64);
     let offered_cell = AtomicCell::new(0u64);
@@ -193,17 +198,20 @@ where
     thread::scope(
         thread::scope_env(),
         rt,
-        move |scope| -> Option<(Vec<Outlet<N>>, Row<N, W>)>
+        move |scope| -> Option<(Vec<Outlet<N>>, Row<N, W>, &mut F)>
             requires { (1 ≤ n) × AreOutlets N.log (F.rest feed.now) outlets.items × (length row.items ≤ MAX_HARTS)
                 × AllMayRead P.planned W.view monitor.now N.log rings.now.items row.items }
             ensures outlets { IfSome result (λ r. AreOutlets N.log [] r.0.items × AreWhole N.log r.0.items) }
             ensures len { IfSome result (λ r. length r.1.items ≡ length row.items) }
             ensures passes { IfSome result (λ r. ReadersPass P.planned W.view monitor.entry.now N.log
                 rings.entry.now.items (row.items ∷ []) (r.1.items ∷ [])) }
+            ensures feed { IfSome result (λ r. r.2.ghost_name ≡ feed.entry.ghost_name) }
+            ensures rest { IfSome result (λ r. F.rest r.2.now ≡ []) }
         {
-            read_all(
+            let (outlets, row) = read_all(
                 scope, rt, alloc, monitor, rings, gate, stop, offered, back, n, feed, outlets, row,
-            )
+            )?;
+            Some((outlets, row, feed))
         },
     )
 }
@@ -247,6 +255,7 @@ where
     requires feed { F.rest feed.old ≡ lines_of P.planned monitor.now }
     ensures ready { IfOk result (λ ws. IsReadyCrew P.planned W.view monitor.now ws.items) }
     ensures same { IfOk result (λ ws. EachLed IsSameWorker W.view workers.items ws.items) }
+    ensures rest { OnOk result (F.rest feed.new ≡ []) }
 {
     let Opened {
         rings,
@@ -256,7 +265,14 @@ where
     let outlets = outlets_of(alloc, rings.as_slice(), sends)?;
     let row = readers_of(alloc, monitor, &rings, takes, workers)?;
     match in_scope(rt, alloc, monitor, &rings, gate, n, feed, outlets, row) {
-        Some((outlets, row)) => ready_workers(rt, alloc, monitor, &rings, row, outlets.as_slice()),
+        Some((outlets, row, _fed)) => ready_workers(
+            rt,
+            alloc,
+            monitor,
+            &rings,
+            row,
+            outlets.as_slice(),
+        ),
         None => Err(NoMemory),
     }
 }
@@ -286,6 +302,7 @@ where
     requires feed { F.rest feed.old ≡ lines_of P.planned monitor.now }
     ensures ready { IfOk result (λ ws. IsReadyCrew P.planned W.view monitor.now ws.items) }
     ensures same { IfOk result (λ ws. EachLed IsSameWorker W.view workers.items ws.items) }
+    ensures rest { OnOk result (F.rest feed.new ≡ []) }
 {
     fed_crew::<R, P, Named<J>, F, W, G>(rt, alloc, monitor, gate, n, feed, workers)
 }
@@ -295,7 +312,7 @@ where
 ///
 /// A ring has room for 16 chunks of 64 records, so a worker is fed at most so far ahead. A worker is turned by one
 /// record at a time, after it has passed the gate with the number of its next record. The caller turns the workers of a
-/// thread that does not start. With `n` 0 there is one thread beside the caller's.
+/// thread that does not start. With `n` 0 there is one thread beside the caller's. After an `Ok` the feed is used up.
 ///
 /// # Errors
 ///
@@ -319,7 +336,8 @@ where
     W::Guard: Send,
     requires crew { IsFreshCrew P.planned W.view monitor.now workers.items }
     requires feed { F.rest feed.old ≡ lines_of P.planned monitor.now }
-    ensures { IfOk result (IsFinished P.planned W.view monitor.now workers.items) }
+    ensures finished { IfOk result (IsFinished P.planned W.view monitor.now workers.items) }
+    ensures rest { OnOk result (F.rest feed.new ≡ []) }
 {
     let ready = fed_as::<R, P, Brand, F, W, G>(rt, alloc, monitor, gate, n.max(1), feed, workers)?;
     let finished = run_one_thread(alloc, monitor, ready)?;

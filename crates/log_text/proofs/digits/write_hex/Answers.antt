@@ -25,7 +25,7 @@ digits-preserved c =
       omega arith,
       length-set l.buffer (l.at - 1) c.last_digit.result ∙ long,
       ap (digits_onto (l.at - 1) 16 false (l.rest / 16)) (next ∙ digit)
-      ∙ sym (hex_goes_on l.rest all l.at c.digits-test.true c.if-rest-eq0.false) ∙ written,
+          ∙ sym (hex_goes_on l.rest all l.at c.digits-test.true c.if-rest-eq0.false) ∙ written,
       subst IsAscii (sym next) (IsAscii-cons c.last_digit.result all c.last_digit.ensures.ascii ascii),
     )
 

@@ -186,9 +186,9 @@ impl Clocks {
         self.entry_in(self.slot(hart, number), u)
     }
 
-    /// Whether the clock of the next record, of this hart, knows the record of another hart u with this number, where the
-    /// next record needs these records of other harts. A clock of another hart is looked at only for a record that the
-    /// hart's last record does not know.
+    /// Whether the clock of the next record, of this hart, knows the record of another hart u with this number, where
+    /// the next record needs these records of other harts. A clock of another hart is looked at only for a record that
+    /// the hart's last record does not know.
     pub fn next_knows(&self, hart: u8, needs: &Arcs, u: u8, number: u32) -> bool
         requires hart { hart < 8 }
         requires u { u < 8 }

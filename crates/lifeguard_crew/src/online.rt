@@ -155,7 +155,7 @@ where
     }
 }
 
-// The same in a scope. It hands the feed back, of which nothing is left.
+// The same in a scope. It hands the feed back with nothing left in it: only what the scope returns is known after it.
 fn in_scope<
     'o,
     'f,

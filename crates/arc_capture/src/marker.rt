@@ -7,17 +7,8 @@ ghost use Rattle.pl_event.specs.Runs.{IsBlockSize};
 use crate::capture::Capture;
 use arc_reduce::Reducer;
 use pl_base::NoMemory;
-use pl_event::{Arcs, Line};
+use pl_event::Line;
 use std::alloc::Global;
-
-// The arcs, of which there is one from each of eight harts.
-#[inline]
-fn eight(arcs: Arcs) -> Arcs
-    ensures same { result ≡ arcs }
-    ensures long { length result ≡ MAX_HARTS }
-{
-    arcs
-}
 
 /// A capture and a reducer of the same lines.
 #[derive(Drop)]
@@ -50,9 +41,9 @@ impl Marker {
         ensures harts { self.new.reducer.harts ≡ self.old.reducer.harts }
     {
         let taken = self.capture.take(line)?;
-        let found = eight(taken);
+        let found = taken.eight();
         let kept = self.reducer.keep(line, &found)?;
-        let arcs = eight(kept);
+        let arcs = kept.eight();
         Ok(Line {
             what: line.what,
             arcs,

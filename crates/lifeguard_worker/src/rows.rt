@@ -1,9 +1,9 @@
 //! What a worker keeps of the records that it is fed.
-ghost use Rattle.std.specs.Prelude.{◌≡◌, ◌+◌, ◌^◌, ◌<◌, ◌≤◌, ℕ, List, Option, MatchOption, IsTrue, length};
+ghost use Rattle.std.specs.Prelude.{◌≡◌, ◌+◌, ◌<◌, ℕ, List, Option, IsTrue, length};
 ghost use Rattle.pl_event.specs.Edges.{no_arcs};
 ghost use Rattle.lifeguard_worker.specs.Rows.{entry_of, item_of, needs_in};
 
-use pl_event::{Arcs, Fed, Record};
+use pl_event::{Arcs, Fed, Record, next_slot};
 use std::alloc::{AllocError, Global};
 use std::marker::Model;
 
@@ -41,13 +41,6 @@ impl Model for Rows {
     ghost view = { λ r. items_in r.needs.items r.rows.items };
 
     ghost invariant = { λ r. AreNeeded r.needs.items r.rows.items };
-}
-
-// The slot after `len` of them, or none where it has more than 32 bits.
-fn next_slot(len: usize) -> Option<u32>
-    ensures { MatchOption result (2 ^ 32 ≤ len + 1) (λ slot. slot ≡ len + 1) }
-{
-    u32::try_from(len).ok()?.checked_add(1)
 }
 
 // Whether these are no needs.

@@ -51,7 +51,7 @@ tells_on g e s t = record {
   records = λ h low. t.records h low ∙ sym (same h);
   told = λ h p is. subst (λ (z : ℕ). IsNotice (g ++ e) h z p.hart p.number) (sym (same h)) (notice_on g e h (records_before h g (length g)) p.hart p.number (t.told h p is));
   all = λ h u n low note. t.all h u n low (notice_back g e h (records_before h g (length g)) u n (omega arith) (subst (λ (z : ℕ). IsNotice (g ++ e) h z u n) (same h) note));
-  quiet = t.quiet;
+  awaited = t.awaited;
 }
   where
     first : take (length g) (g ++ e) ≡ take (length g) g

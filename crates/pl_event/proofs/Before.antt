@@ -1,5 +1,5 @@
 -- What comes before a line.
-use Rattle.std.proofs.Common.{◌≡◌, ◌≢◌, ℕ, zero, suc, ◌+◌, ◌^◌, ◌<◌, ◌≤◌, ◌⊎◌, Bool, eqb, eq-eqb, ne_eqb, if◌then◌else◌, List, [], ◌∷◌, ◌++◌, length, take, drop, filter, length-append, append-nil, zero-add, slice_get, slice_index, slice_index_or, set, get_or, get_or-set_same, get_or-set_other, IsTrue, true, false, Option, Some, None, refl, sym, ap, ◌∙◌, subst, inl, inr, arith}
+use Rattle.std.proofs.Common.{◌≡◌, ◌≢◌, ℕ, zero, suc, ◌+◌, ◌^◌, ◌<◌, ◌≤◌, ◌⊎◌, Bool, eqb, eq-eqb, ne_eqb, if◌then◌else◌, List, [], ◌∷◌, ◌++◌, length, take, drop, filter, length-append, append-nil, zero-add, slice_get, slice_index, slice_index_or, set, get_or, get_or-set_same, get_or-set_other, Option, Some, None, refl, sym, ap, ◌∙◌, subst, inl, inr, arith}
 use Rattle.std.proofs.lemmas.List.Sums.{sum_by-append, count_by-le-length}
 use Rattle.std.specs.List.{cons_option}
 use Rattle.std.specs.Option.{option_to_list}
@@ -87,14 +87,14 @@ module _ (harts : ℕ) (g : List Line) (flow : IsFlow harts g) (i h : ℕ) (l : 
           all u k (subst (λ (z : ℕ). IsNotice g h z u k) e after.5)
 
   pub most_notice : (s : Heads) → Tells s g i → (u : ℕ) → u < 8
-      → ((p : Point) → slice_index_or s.open u None ≡ Some p → p.hart ≡ h → p.number ≡ records_before h g i + 1 → IsMost (λ n. IsNotice g u n h (records_before h g i + 1)) (Some (slice_index s.records u)))
-      × ((((p : Point) → slice_index_or s.open u None ≡ Some p → p.hart ≡ h → p.number ≡ records_before h g i + 1 → ⊥)) → IsMost (λ n. IsNotice g u n h (records_before h g i + 1)) None)
-  most_notice s st u low = notice_most u (slice_index s.records u) (slice_index_or s.open u None) (st.told u) (λ v k n. st.all u v k low n) (st.records u low)
+      → ((p : Point) → slice_index_or s.notices u None ≡ Some p → p.hart ≡ h → p.number ≡ records_before h g i + 1 → IsMost (λ n. IsNotice g u n h (records_before h g i + 1)) (Some (slice_index s.records u)))
+      × ((((p : Point) → slice_index_or s.notices u None ≡ Some p → p.hart ≡ h → p.number ≡ records_before h g i + 1 → ⊥)) → IsMost (λ n. IsNotice g u n h (records_before h g i + 1)) None)
+  most_notice s st u low = notice_most u (slice_index s.records u) (slice_index_or s.notices u None) (st.told u) (λ v k n. st.all u v k low n) (st.records u low)
 
   pub most_after : (s : Heads) → Tells s g i → (u : ℕ) → h < 8
-      → ((p : Point) → slice_index_or s.open h None ≡ Some p → p.hart ≡ u → IsMost (λ n. IsAfter g u n h (records_before h g i + 1)) (Some p.number))
-      × (((p : Point) → slice_index_or s.open h None ≡ Some p → p.hart ≡ u → ⊥) → IsMost (λ n. IsAfter g u n h (records_before h g i + 1)) None)
-  most_after s st u low = after_most u (slice_index_or s.open h None) (st.told h) (λ v k n. st.all h v k low n)
+      → ((p : Point) → slice_index_or s.notices h None ≡ Some p → p.hart ≡ u → IsMost (λ n. IsAfter g u n h (records_before h g i + 1)) (Some p.number))
+      × (((p : Point) → slice_index_or s.notices h None ≡ Some p → p.hart ≡ u → ⊥) → IsMost (λ n. IsAfter g u n h (records_before h g i + 1)) None)
+  most_after s st u low = after_most u (slice_index_or s.notices h None) (st.told h) (λ v k n. st.all h v k low n)
 
   -- the greatest of the three kinds is the need
   pub is_need : (u : ℕ) (a b c : Option ℕ) → arc_of l u ≡ a → IsMost (λ n. IsNotice g u n h (records_before h g i + 1)) b → IsMost (λ n. IsAfter g u n h (records_before h g i + 1)) c
@@ -115,16 +115,16 @@ module _ (harts : ℕ) (g : List Line) (flow : IsFlow harts g) (i h : ℕ) (l : 
       alone (Some n) = refl
 
   -- the line is passed
-  pub passed : (s : Heads) → Tells s g i → h < 8 → length s.records ≡ 8 → length s.open ≡ 8
+  pub passed : (s : Heads) → Tells s g i → h < 8 → length s.records ≡ 8 → length s.notices ≡ 8
       → (o : Option Point) (n p : ℕ) (es : List ℕ)
       → ((q : Point) → o ≡ Some q → l.what ≡ notice_of h q.hart q.number)
       → ((u k : ℕ) → l.what ≡ notice_of h u k → (q : Point) × (o ≡ Some q) × (q.hart ≡ u) × (q.number ≡ k))
       → n ≡ slice_index s.records h + 1
       → p ≡ length (events_of (take (i + 1) g))
       → ((x : ℕ) → x < 8 → slice_index es x ≡ events_on x (events_of (take (i + 1) g)))
-      → (quiet : Bool) → (IsTrue quiet → (x : ℕ) → x < 8 → slice_index_or (set s.open h o) x None ≡ None)
-      → Tells (record { place = p; events = es; records = set s.records h n; «open» = set s.open h o; quiet = quiet }) g (i + 1)
-  passed s st low long_c long_o o n p es told all is placed numbered quiet none = record { place = placed; events = numbered; records = counts; told = tells; all = every; quiet = none }
+      → (names : List ℕ) → ((x : ℕ) (q : Point) → slice_index_or (set s.notices h o) x None ≡ Some q → q.hart < 8 → q.number ≤ slice_index names q.hart)
+      → Tells (record { place = p; events = es; records = set s.records h n; notices = set s.notices h o; awaited = names }) g (i + 1)
+  passed s st low long_c long_o o n p es told all is placed numbered names named = record { place = placed; events = numbered; records = counts; told = tells; all = every; awaited = named }
     where
       own : records_before h g (i + 1) ≡ records_before h g i + 1
       own = before_own g i h l next.at next.hart
@@ -132,8 +132,8 @@ module _ (harts : ℕ) (g : List Line) (flow : IsFlow harts g) (i h : ℕ) (l : 
       other : (x : ℕ) → x ≢ h → records_before x g (i + 1) ≡ records_before x g i
       other x ne = before_other g i x l next.at (λ e. ne (sym e ∙ next.hart))
 
-      here : get_or (set s.open h o) h None ≡ o
-      here = get_or-set_same s.open h o None (omega arith)
+      here : get_or (set s.notices h o) h None ≡ o
+      here = get_or-set_same s.notices h o None (omega arith)
 
       counts : (x : ℕ) → x < 8 → slice_index (set s.records h n) x ≡ records_before x g (i + 1)
       counts x lx = dite (ℕ_discrete x h)
@@ -141,20 +141,20 @@ module _ (harts : ℕ) (g : List Line) (flow : IsFlow harts g) (i h : ℕ) (l : 
           (get_or-set_same s.records h n 0 (omega arith) ∙ (let c : slice_index s.records h ≡ records_before h g i = st.records h low in let o : records_before h g (i + 1) ≡ records_before h g i + 1 = own in let t : n ≡ records_before h g (i + 1) = omega arith in t)))
           (λ ne. get_or-set_other s.records h x n 0 ne ∙ (st.records x lx ∙ sym (other x ne)))
 
-      tells : (x : ℕ) (q : Point) → slice_index_or (set s.open h o) x None ≡ Some q → IsNotice g x (records_before x g (i + 1)) q.hart q.number
+      tells : (x : ℕ) (q : Point) → slice_index_or (set s.notices h o) x None ≡ Some q → IsNotice g x (records_before x g (i + 1)) q.hart q.number
       tells x q e = dite (ℕ_discrete x h)
           (λ same. subst (λ (z : ℕ). IsNotice g z (records_before z g (i + 1)) q.hart q.number) (sym same)
-          (i, l, subst (λ (z : ℕ). IsRecord g i h z l) (sym own) next, told q (sym here ∙ (ap (λ (z : ℕ). get_or (set s.open h o) z None) (sym same) ∙ e))))
-          (λ ne. subst (λ (z : ℕ). IsNotice g x z q.hart q.number) (sym (other x ne)) (st.told x q (sym (get_or-set_other s.open h x o None ne) ∙ e)))
+          (i, l, subst (λ (z : ℕ). IsRecord g i h z l) (sym own) next, told q (sym here ∙ (ap (λ (z : ℕ). get_or (set s.notices h o) z None) (sym same) ∙ e))))
+          (λ ne. subst (λ (z : ℕ). IsNotice g x z q.hart q.number) (sym (other x ne)) (st.told x q (sym (get_or-set_other s.notices h x o None ne) ∙ e)))
 
-      every : (x u k : ℕ) → x < 8 → IsNotice g x (records_before x g (i + 1)) u k → (q : Point) × (slice_index_or (set s.open h o) x None ≡ Some q) × (q.hart ≡ u) × (q.number ≡ k)
+      every : (x u k : ℕ) → x < 8 → IsNotice g x (records_before x g (i + 1)) u k → (q : Point) × (slice_index_or (set s.notices h o) x None ≡ Some q) × (q.hart ≡ u) × (q.number ≡ k)
       every x u k lx note = dite (ℕ_discrete x h)
           (λ same.
           let note' : IsNotice g h (records_before h g i + 1) u k = subst (λ (z : ℕ). IsNotice g h z u k) own (subst (λ (z : ℕ). IsNotice g z (records_before z g (i + 1)) u k) same note) in
           let e : note'.1 ≡ l = (one_place g h (records_before h g i + 1) note'.0 i note'.1 l note'.2 next).1 in
           let t = all u k (sym (ap (λ (z : Line). z.what) e) ∙ note'.3) in
-          (t.0, ap (λ (z : ℕ). get_or (set s.open h o) z None) same ∙ (here ∙ t.1), t.2, t.3))
-          (λ ne. let t = st.all x u k lx (subst (λ (z : ℕ). IsNotice g x z u k) (other x ne) note) in (t.0, get_or-set_other s.open h x o None ne ∙ t.1, t.2, t.3))
+          (t.0, ap (λ (z : ℕ). get_or (set s.notices h o) z None) same ∙ (here ∙ t.1), t.2, t.3))
+          (λ ne. let t = st.all x u k lx (subst (λ (z : ℕ). IsNotice g x z u k) (other x ne) note) in (t.0, get_or-set_other s.notices h x o None ne ∙ t.1, t.2, t.3))
 
 -- one line more has one event more, if it is one
 pub events_more : (g : List Line) (i : ℕ) (l : Line) → get_elem? g i ≡ some l → events_of (take (suc i) g) ≡ events_of (take i g) ++ option_to_list (event_of l.what)
@@ -228,14 +228,14 @@ needs_bare harts g flow i h l next bare none = λ d.
     nothing u low = sym (need_alone harts g flow i h l next u (λ n. none u n low)
         ∙ (ap (λ (arcs : List (Option ℕ)). slice_index_or arcs u None) bare ∙ eight None u))
 
-pub tells_first : (s : Heads) (g : List Line) → s.place ≡ 0 → ((h : ℕ) → slice_index s.events h ≡ 0) → ((h : ℕ) → slice_index s.records h ≡ 0) → ((h : ℕ) → slice_index_or s.open h None ≡ None) → Tells s g 0
+pub tells_first : (s : Heads) (g : List Line) → s.place ≡ 0 → ((h : ℕ) → slice_index s.events h ≡ 0) → ((h : ℕ) → slice_index s.records h ≡ 0) → ((h : ℕ) → slice_index_or s.notices h None ≡ None) → Tells s g 0
 tells_first s g first events zeros nones = record {
   place = first;
   events = λ h _. events h;
   records = λ h _. zeros h ∙ sym (before_none g h);
   told = λ h p e. absurd (let t : None ≡ Some p = sym (nones h) ∙ e in cc);
   all = λ h u n low note. absurd (let t : records_before h g note.0 + 1 ≡ records_before h g 0 = note.2.number in let z : records_before h g 0 ≡ 0 = before_none g h in omega arith);
-  quiet = λ _ h _. nones h;
+  awaited = λ h p e. absurd (let t : None ≡ Some p = sym (nones h) ∙ e in cc);
 }
 
 -- how many events the first lines have, and how many of a hart
@@ -289,24 +289,20 @@ fed_event g i l s st at low e is r own needs need = λ d. record { place = place
     needs_are = need ∙ ap (λ (z : ℕ). needs_of g z (records_before z g i + 1)) own
 
 -- an event is passed
-pub pass_event : (harts : ℕ) (g : List Line) → IsFlow harts g → (i : ℕ) (l : Line) → IsNext g i (hart_of l.what) l → (s : Heads) → Tells s g i → hart_of l.what < 8 → length s.events ≡ 8 → length s.records ≡ 8 → length s.open ≡ 8
+pub pass_event : (harts : ℕ) (g : List Line) → IsFlow harts g → (i : ℕ) (l : Line) → IsNext g i (hart_of l.what) l → (s : Heads) → Tells s g i → hart_of l.what < 8 → length s.events ≡ 8 → length s.records ≡ 8 → length s.notices ≡ 8
     → (e : Event) → l.what ≡ entry.Event e → (r : ℕ) → r ≡ hart_of l.what
-    → (quiet : Bool) → (IsTrue quiet → IsTrue s.quiet ⊎ ((x : ℕ) → x < 8 → slice_index_or (set s.open r None) x None ≡ None))
-    → Tells (record { place = s.place + 1; events = set s.events r (slice_index s.events r + 1); records = set s.records r (slice_index s.records r + 1); «open» = set s.open r None; quiet = quiet }) g (i + 1)
-pass_event harts g flow i l next s st low long_e long_r long_o e is r own quiet none =
-    subst (λ (z : ℕ). Tells (record { place = s.place + 1; events = set s.events z (slice_index s.events z + 1); records = set s.records z (slice_index s.records z + 1); «open» = set s.open z None; quiet = quiet }) g (i + 1)) (sym own)
-    (passed harts g flow i (hart_of l.what) l next s st low long_r long_o None (slice_index s.records (hart_of l.what) + 1) (s.place + 1) (set s.events (hart_of l.what) (slice_index s.events (hart_of l.what) + 1)) told all refl placed numbers quiet still)
+    → Tells (record { place = s.place + 1; events = set s.events r (slice_index s.events r + 1); records = set s.records r (slice_index s.records r + 1); notices = set s.notices r None; awaited = s.awaited }) g (i + 1)
+pass_event harts g flow i l next s st low long_e long_r long_o e is r own =
+    subst (λ (z : ℕ). Tells (record { place = s.place + 1; events = set s.events z (slice_index s.events z + 1); records = set s.records z (slice_index s.records z + 1); notices = set s.notices z None; awaited = s.awaited }) g (i + 1)) (sym own)
+    (passed harts g flow i (hart_of l.what) l next s st low long_r long_o None (slice_index s.records (hart_of l.what) + 1) (s.place + 1) (set s.events (hart_of l.what) (slice_index s.events (hart_of l.what) + 1)) told all refl placed numbers s.awaited named)
   where
     he : hart_of l.what ≡ e.hart
     he = ap hart_of is
 
-    still : IsTrue quiet → (x : ℕ) → x < 8 → slice_index_or (set s.open (hart_of l.what) None) x None ≡ None
-    still q x lx = elim (none q) [
-      | inl old ↦ dite (ℕ_discrete x (hart_of l.what))
-          (λ same. ap (λ (z : ℕ). get_or (set s.open (hart_of l.what) None) z None) same ∙ get_or-set_same s.open (hart_of l.what) None None (omega arith))
-          (λ ne. get_or-set_other s.open (hart_of l.what) x None None ne ∙ st.quiet old x lx)
-      | inr new ↦ subst (λ (z : ℕ). slice_index_or (set s.open z None) x None ≡ None) own (new x lx)
-    ]
+    named : (x : ℕ) (q : Point) → slice_index_or (set s.notices (hart_of l.what) None) x None ≡ Some q → q.hart < 8 → q.number ≤ slice_index s.awaited q.hart
+    named x q e = dite (ℕ_discrete x (hart_of l.what))
+        (λ same. absurd (let f : None ≡ some_point q = sym (ap (λ (z : ℕ). get_or (set s.notices (hart_of l.what) None) z None) same ∙ get_or-set_same s.notices (hart_of l.what) None None (omega arith)) ∙ e in cc))
+        (λ ne. st.awaited x q (sym (get_or-set_other s.notices (hart_of l.what) x None None ne) ∙ e))
 
     told : (q : Point) → None ≡ some_point q → l.what ≡ notice_of (hart_of l.what) q.hart q.number
     told q t = absurd (cc)
@@ -322,13 +318,25 @@ pass_event harts g flow i l next s st low long_e long_r long_o e is r own quiet 
         (numbered (events_of (take i g)) e s.events (slice_index s.events e.hart + 1) long_e (subst (λ (z : ℕ). z < 8) he low) st.events refl x lx ∙ ap (λ (z : List Event). events_on x z) (sym (with_event g i l e next.at is)))
 
 -- a notice is passed
-pub pass_notice : (harts : ℕ) (g : List Line) → IsFlow harts g → (i : ℕ) (l : Line) → IsNext g i (hart_of l.what) l → (s : Heads) → Tells s g i → hart_of l.what < 8 → length s.records ≡ 8 → length s.open ≡ 8
+pub pass_notice : (harts : ℕ) (g : List Line) → IsFlow harts g → (i : ℕ) (l : Line) → IsNext g i (hart_of l.what) l → (s : Heads) → Tells s g i → hart_of l.what < 8 → length s.records ≡ 8 → length s.notices ≡ 8
     → (h : ℕ) (p : Point) → l.what ≡ entry.Notice h p → (r : ℕ) → r ≡ hart_of l.what
-    → Tells (record { place = s.place; events = s.events; records = set s.records r (slice_index s.records r + 1); «open» = set s.open r (Some p); quiet = false }) g (i + 1)
-pass_notice harts g flow i l next s st low long_r long_o h p is r own =
-    subst (λ (z : ℕ). Tells (record { place = s.place; events = s.events; records = set s.records z (slice_index s.records z + 1); «open» = set s.open z (Some p); quiet = false }) g (i + 1)) (sym own)
-    (passed harts g flow i (hart_of l.what) l next s st low long_r long_o (Some p) (slice_index s.records (hart_of l.what) + 1) s.place s.events told all refl placed numbers false (λ t. absurd (let e : false ≡ true = t in cc)))
+    → (names : List ℕ) → ((x : ℕ) → slice_index s.awaited x ≤ slice_index names x) → (p.hart < 8 → p.number ≤ slice_index names p.hart)
+    → Tells (record { place = s.place; events = s.events; records = set s.records r (slice_index s.records r + 1); notices = set s.notices r (Some p); awaited = names }) g (i + 1)
+pass_notice harts g flow i l next s st low long_r long_o h p is r own names kept new =
+    subst (λ (z : ℕ). Tells (record { place = s.place; events = s.events; records = set s.records z (slice_index s.records z + 1); notices = set s.notices z (Some p); awaited = names }) g (i + 1)) (sym own)
+    (passed harts g flow i (hart_of l.what) l next s st low long_r long_o (Some p) (slice_index s.records (hart_of l.what) + 1) s.place s.events told all refl placed numbers names named)
   where
+    named : (x : ℕ) (q : Point) → slice_index_or (set s.notices (hart_of l.what) (Some p)) x None ≡ Some q → q.hart < 8 → q.number ≤ slice_index names q.hart
+    named x q e below = dite (ℕ_discrete x (hart_of l.what))
+        (λ same.
+        let f : some_point p ≡ some_point q = sym (ap (λ (z : ℕ). get_or (set s.notices (hart_of l.what) (Some p)) z None) same ∙ get_or-set_same s.notices (hart_of l.what) (Some p) None (omega arith)) ∙ e in
+        let is_p : p ≡ q = cc in
+        subst (λ (z : Point). z.number ≤ slice_index names z.hart) is_p (new (subst (λ (z : Point). z.hart < 8) (sym is_p) below)))
+        (λ ne.
+        let was : q.number ≤ slice_index s.awaited q.hart = st.awaited x q (sym (get_or-set_other s.notices (hart_of l.what) x (Some p) None ne) ∙ e) below in
+        let up : slice_index s.awaited q.hart ≤ slice_index names q.hart = kept q.hart in
+        omega arith)
+
     hh : h ≡ hart_of l.what
     hh = sym (ap hart_of is)
 

@@ -4,6 +4,7 @@ pub mod EventLemmas
 pub mod Growth
 pub mod MappedPages
 pub mod Mosts
+pub mod Needed
 pub mod Noticed
 pub mod OpeningPages
 pub mod Paths

@@ -1,4 +1,2 @@
-pub mod FedRows
 pub mod Later
-pub mod Packing
 pub mod Rows

@@ -1,5 +1,5 @@
 //! How far each hart of a log is, line by line.
-ghost use Rattle.std.specs.Prelude.{◌≡◌, ◌↔◌, ℕ, ◌+◌, ◌^◌, ◌<◌, ◌⊎◌, List, slice_index, slice_index_or, slice_set, IsTrue, None, false};
+ghost use Rattle.std.specs.Prelude.{◌≡◌, ◌↔◌, ℕ, ◌+◌, ◌^◌, ◌<◌, ◌≤◌, ◌⊎◌, List, slice_index, slice_index_or, IsTrue, None, Some, false};
 ghost use Rattle.pl_event.specs.declared.log.Line.{Line};
 ghost use Rattle.pl_event.specs.Conflicts.{HasNotice};
 ghost use Rattle.pl_event.specs.Numbers.{hart_of};
@@ -22,9 +22,10 @@ pub struct Heads {
     place: u32,
     events: [u32; 8],
     records: [u32; 8],
-    open: [Option<Point>; 8],
-    // where true, no hart's last record is a notice
-    quiet: bool,
+    // the notice that is a hart's last record
+    notices: [Option<Point>; 8],
+    // the greatest number of a hart's record that a notice has named
+    awaited: [u32; 8],
 }
 
 // The greater of two numbers that may be missing.
@@ -51,8 +52,8 @@ impl Heads {
             place: 0,
             events: [0; 8],
             records: [0; 8],
-            open: [None; 8],
-            quiet: true,
+            notices: [None; 8],
+            awaited: [0; 8],
         }
     }
 
@@ -66,7 +67,7 @@ impl Heads {
             IsFlow harts lines → Tells self.now lines i → IsNext lines i hart line →
             IsMost (λ n. IsNotice lines u n hart (records_before hart lines i + 1)) result }
     {
-        match self.open[u as usize] {
+        match self.notices[u as usize] {
             None => None,
             Some(of) => {
                 if of.hart == hart && of.number == self.records[hart as usize] + 1 {
@@ -100,10 +101,19 @@ impl Heads {
             IsFlow harts lines → Tells self.now lines i → IsNext lines i hart line →
             IsMost (λ n. IsAfter lines u n hart (records_before hart lines i + 1)) result }
     {
-        match self.open[hart as usize] {
+        match self.notices[hart as usize] {
             None => None,
             Some(of) => { if of.hart == u { Some(of.number) } else { None } }
         }
+    }
+
+    // Whether a notice may have named the next record, of this hart.
+    #[inline(always)]
+    fn may_be_named(&self, hart: u8) -> bool
+        requires { hart < 8 }
+        ensures { result ≡ false → slice_index self.now.awaited hart ≤ slice_index self.now.records hart }
+    {
+        self.awaited[hart as usize] > self.records[hart as usize]
     }
 
     /// Whether no notice bears on the next record, of this hart: its hart's last record is no notice, and no hart has a
@@ -121,7 +131,7 @@ impl Heads {
             (IsNotice lines u n hart (records_before hart lines i + 1)
             ⊎ IsAfter lines u n hart (records_before hart lines i + 1)) }
     {
-        if self.quiet {
+        if !self.may_be_named(hart) && self.notices[hart as usize].is_none() {
             return true;
         }
         for u in 0..8u8 {
@@ -150,28 +160,41 @@ impl Heads {
         )
     }
 
-    // The same, where it may be known that no notice bears on the line.
-    #[inline(always)]
-    fn need_beside(&self, is_unnoticed: bool, line: &Line, hart: u8, u: u8) -> Option<u32>
+    // The same of each hart.
+    #[inline(never)]
+    fn needs_of_all(&self, line: &Line, hart: u8) -> Arcs
         requires hart { hart < 8 }
-        requires u { u < 8 }
         requires few { slice_index self.now.records hart + 1 < 2 ^ 32 }
-        requires alone { IsTrue is_unnoticed → (harts : ℕ) (lines : List Line) (i : ℕ) →
-            IsFlow harts lines → Tells self.now lines i → IsNext lines i hart line.now → (n : ℕ) →
-            (IsNotice lines u n hart (records_before hart lines i + 1)
-            ⊎ IsAfter lines u n hart (records_before hart lines i + 1)) → ⊥ }
         ensures { (harts : ℕ) (lines : List Line) (i : ℕ) →
             IsFlow harts lines → Tells self.now lines i → IsNext lines i hart line.now →
-            result ≡ need_of lines u hart (records_before hart lines i + 1) }
+            result ≡ needs_of lines hart (records_before hart lines i + 1) }
     {
-        if is_unnoticed {
-            line.arcs.get(u)
-        } else {
-            self.need(line, hart, u)
+        let mut needs = Arcs::none();
+        for u in 0..8u8 {
+            needs.set(u, self.need(line, hart, u));
         }
+        needs
+    }
+
+    // What the next line, of this hart, needs of each hart, where no notice names it and it comes after this one.
+    fn needs_after(&self, line: &Line, hart: u8, of: Point) -> Arcs
+        requires hart { hart < 8 }
+        requires of { slice_index_or self.now.notices hart None ≡ Some of }
+        requires named { slice_index self.now.awaited hart ≤ slice_index self.now.records hart }
+        ensures { (harts : ℕ) (lines : List Line) (i : ℕ) →
+            IsFlow harts lines → Tells self.now lines i → IsNext lines i hart line.now →
+            result ≡ needs_of lines hart (records_before hart lines i + 1) }
+    {
+        let mut needs = line.arcs.eight();
+        if of.hart < 8 {
+            let number = later(needs.get(of.hart), Some(of.number));
+            needs.set(of.hart, number);
+        }
+        needs
     }
 
     /// What the next line, of this hart, needs of each hart.
+    #[inline]
     pub fn needs(&self, line: &Line, hart: u8) -> Arcs
         requires hart { hart < 8 }
         requires few { slice_index self.now.records hart + 1 < 2 ^ 32 }
@@ -179,12 +202,13 @@ impl Heads {
             IsFlow harts lines → Tells self.now lines i → IsNext lines i hart line.now →
             result ≡ needs_of lines hart (records_before hart lines i + 1) }
     {
-        let is_unnoticed = self.is_unnoticed(hart);
-        let mut needs = Arcs::none();
-        for u in 0..8u8 {
-            needs.set(u, self.need_beside(is_unnoticed, line, hart, u));
+        if self.may_be_named(hart) {
+            return self.needs_of_all(line, hart);
         }
-        needs
+        match self.notices[hart as usize] {
+            None => line.arcs.eight(),
+            Some(of) => self.needs_after(line, hart, of),
+        }
     }
 
     /// The next line as a worker takes it.
@@ -215,30 +239,16 @@ impl Heads {
         }
     }
 
-    // Whether no hart's last record is a notice.
-    fn has_none_open(&self) -> bool
-        ensures { IsTrue result → (u : ℕ) → u < 8 → slice_index_or self.now.open u None ≡ None }
-    {
-        for u in 0..8u8 {
-            if self.open[u as usize].is_some() {
-                return false;
-            }
-        }
-        true
-    }
-
-    // The last record of this hart is an event.
+    // A notice of this record is taken.
     #[inline(always)]
-    fn close(&mut self, hart: u8)
-        requires { hart < 8 }
-        ensures closed { self.new ≡ record self.old { «open» = slice_set self.old.open hart None; quiet = self.new.quiet } }
-        ensures quiet { IsTrue self.new.quiet →
-            IsTrue self.old.quiet ⊎ ((u : ℕ) → u < 8 → slice_index_or self.new.open u None ≡ None) }
+    fn name(&mut self, of: Point)
+        ensures others { self.new ≡ record self.old { awaited = self.new.awaited } }
+        ensures kept { (h : ℕ) → slice_index self.old.awaited h ≤ slice_index self.new.awaited h }
+        ensures named { of.hart < 8 → of.number ≤ slice_index self.new.awaited of.hart }
     {
-        let was_open = self.open[hart as usize].is_some();
-        self.open[hart as usize] = None;
-        if was_open {
-            self.quiet = self.has_none_open();
+        if of.hart < 8 {
+            let at = of.hart as usize;
+            self.awaited[at] = self.awaited[at].max(of.number);
         }
     }
 
@@ -260,11 +270,11 @@ impl Heads {
             Record::Event(_) => {
                 self.place += 1;
                 self.events[at] += 1;
-                self.close(hart);
+                self.notices[at] = None;
             }
             Record::Notice { hart: _, of } => {
-                self.open[at] = Some(of);
-                self.quiet = false;
+                self.notices[at] = Some(of);
+                self.name(of);
             }
         }
     }

@@ -8,13 +8,11 @@
 
 mod event;
 mod fed;
-mod feds;
 mod feeds;
 mod heads;
 mod lines;
 mod log;
 mod order;
-mod packed;
 mod runs;
 mod short_logs;
 mod slots;
@@ -24,7 +22,6 @@ mod tests;
 
 pub use event::{Event, Kind, is_alert, valid_event};
 pub use fed::{Fed, Feed};
-pub use feds::Feds;
 pub use feeds::fed_of;
 pub use heads::Heads;
 pub use lines::Lines;
@@ -32,4 +29,5 @@ pub use log::{Arcs, Line, Log, PageKind, PageRun, PageRuns, Point, Record, some_
 pub use order::{first_unordered, grown_paths, log_paths, noticed_paths};
 pub use runs::mapped_pages;
 pub use short_logs::conflicts;
+pub use slots::next_slot;
 pub use streams::{record_hart, stream};

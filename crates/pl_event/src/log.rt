@@ -50,6 +50,15 @@ impl Arcs {
         Arcs { numbers: [None; 8] }
     }
 
+    /// The same arcs, one from each of eight harts.
+    #[inline(always)]
+    pub fn eight(self) -> Arcs
+        ensures same { result ≡ self }
+        ensures long { length result ≡ 8 }
+    {
+        self
+    }
+
     /// The number of a hart below 8.
     #[inline(always)]
     pub fn get(&self, hart: u8) -> Option<u32>

@@ -3,7 +3,7 @@ ghost use Rattle.std.specs.Prelude.{◌≡◌, IfOk, length};
 ghost use Rattle.pl_event.specs.Edges.{IsFlow};
 
 use crate::{
-    Arcs, Event, Fed, Feds, Kind, Line, Lines, Log, PageKind, PageRun, PageRuns, Point, Record,
+    Arcs, Event, Fed, Kind, Line, Lines, Log, PageKind, PageRun, PageRuns, Point, Record,
     conflicts, fed_of, first_unordered, grown_paths, is_alert, log_paths, mapped_pages,
     noticed_paths, stream, valid_event,
 };
@@ -90,19 +90,10 @@ fn each_line_has_its_place_its_number_and_what_it_needs(rt: HostRuntime) -> Resu
 }
 
 #[test]
-fn what_a_worker_keeps_of_its_stream_is_the_stream(rt: HostRuntime) -> Result<(), Fail> {
+fn a_stream_has_the_positions_of_the_records_of_a_hart(rt: HostRuntime) -> Result<(), Fail> {
     let log = told_log(rt.alloc())?;
-    let mut kept = Feds::new(rt.alloc());
-    assert!(rt; kept.is_empty() && !log.lines.is_empty() && log.pages.as_slice().len() == 1);
-    let feds = fed_of(rt.alloc(), &log, 1).or(Err(AllocError))?;
-    for &fed in feds.as_slice() {
-        kept.push(fed)?;
-    }
-    assert_eq!(rt; kept.len(), 2);
+    assert!(rt; !log.lines.is_empty() && log.pages.as_slice().len() == 1);
     let positions = stream(rt.alloc(), &log, 1).or(Err(AllocError))?;
     assert_eq!(rt; positions.as_slice(), [0, 2].as_slice());
-    for (i, &fed) in feds.as_slice().iter().enumerate() {
-        assert_eq!(rt; if i < kept.len() { kept.get(i) } else { fed }, fed);
-    }
     Ok(())
 }

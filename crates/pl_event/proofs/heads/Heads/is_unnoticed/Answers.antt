@@ -1,14 +1,11 @@
-use Rattle.std.proofs.Common.{◌≡◌, ◌∙◌, ℕ, ◌+◌, ◌<◌, ◌≤◌, ◌⊎◌, List, Bool, true, false, IsTrue, Option, None, Some, is_some, inl, inr, sym, subst, arith}
+use Rattle.std.proofs.Common.{◌≡◌, ◌∙◌, ℕ, ◌+◌, ◌≤◌, ◌⊎◌, Bool, true, false, Option, None, Some, is_some, not, ap, refl, inl, inr, sym, subst, arith}
 use mathlib.Core.Logic.{dite}
 use native.Mathlib.Decide.{ℕ_discrete}
-use Rattle.pl_event.specs.declared.heads.Heads.{Heads}
-use Rattle.pl_event.specs.declared.log.Line.{Line}
 use Rattle.pl_event.specs.declared.log.Point.{Point}
 use Rattle.pl_event.specs.Records.{records_before}
-use Rattle.pl_event.specs.Edges.{IsNotice, IsAfter, IsFlow}
+use Rattle.pl_event.specs.Edges.{IsNotice, IsAfter}
 use Rattle.pl_event.specs.Needs.{IsMost}
-use Rattle.pl_event.specs.Heads.{Tells, IsNext}
-use Rattle.pl_event.proofs.Before.{most_after, most_notice}
+use Rattle.pl_event.proofs.Needed.{unnoticed}
 use Rattle.pl_event.proofs.Mosts.{most_some}
 use Rattle.pl_event.proofs.heads.Heads.is_unnoticed.Goals as goal
 
@@ -19,21 +16,14 @@ none_left P o b most is fails n p =
     let f : true ≡ false = sym found ∙ (sym is ∙ fails) in
     absurd cc
 
-abbrev some_point : Point → Option Point
-some_point p = Some p
+none_of : (o : Option Point) (b : Bool) → is_some o ≡ not b → b ≡ true → o ≡ None
+none_of None b is none = refl
+none_of (Some p) b is none = absurd (let e : true ≡ false = is ∙ ap not none in cc)
 
--- where no notice is open none bears on the next record
-none_open : (harts : ℕ) (g : List Line) (flow : IsFlow harts g) (i h : ℕ) (line : Line) (next : IsNext g i h line)
-    (s : Heads) (st : Tells s g i) → h < 8 → IsTrue s.quiet → (u n : ℕ) → u < 8
-    → (IsNotice g u n h (records_before h g i + 1) ⊎ IsAfter g u n h (records_before h g i + 1)) → ⊥
-none_open harts g flow i h line next s st own quiet u n low (inl x) =
-    (most_notice harts g flow i h line next s st u low).1 (λ p is _ _. absurd (let e : None ≡ some_point p = sym (st.quiet quiet u low) ∙ is in cc)) n x
-none_open harts g flow i h line next s st own quiet u n low (inr x) =
-    (most_after harts g flow i h line next s st u own).1 (λ p is _. absurd (let e : None ≡ some_point p = sym (st.quiet quiet h own) ∙ is in cc)) n x
-
-pub returns-then-self-clause-yes : goal.returns-then-self-clause-yes
-returns-then-self-clause-yes c t harts g i line flow st next u n low source =
-    none_open harts g flow i c.args.hart line next c.args.self.now st c.requires.hart c.if-self.true u n low source
+pub returns-then-is_none-clause-yes : goal.returns-then-is_none-clause-yes
+returns-then-is_none-clause-yes c t harts g i line flow st next u n low source =
+    unnoticed harts g flow i c.args.hart line next c.args.self.now st c.requires.hart
+    (c.may_be_named.ensures c.if-not-may_be_named.true) (none_of _ c.is_none.result c.is_none.ensures c.if-is_none.true) u n low source
 
 pub returns-then-is_some-clause-no : goal.returns-then-is_some-clause-no
 returns-then-is_some-clause-no c same harts g i line flow st next =

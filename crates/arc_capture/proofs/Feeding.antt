@@ -16,7 +16,8 @@ use Rattle.conflict_alerts.specs.Placer.{HasPlaced, MayPlace}
 use Rattle.conflict_alerts.proofs.Placed.{one_more, all_noticed}
 use Rattle.conflict_alerts.proofs.Telling.{to_own, to_other}
 use Rattle.arc_capture.specs.declared.marker.Marker.{Marker}
-use Rattle.arc_capture.specs.Marker.{HasMarked}
+use Rattle.pl_event.proofs.MappedPages.{line_holds}
+use Rattle.arc_capture.specs.Marker.{HasMarked, MayMark}
 use Rattle.arc_capture.specs.Recorder.{HasRecorded, MayFeed, MayMarkAll}
 
 -- How many lines
@@ -89,6 +90,23 @@ module _ (placer : Placer) (marker : Marker) (size : ℕ) (events : List Event) 
         sound = each_of (IsSoundLine 8) harts n event (λ u. (refl, refl)) (refl, ((let a : event.hart < placer.harts = may.valid.0 in let b : placer.harts ≤ 8 = may.has.harts in omega arith), may.valid.1));
         flow = subst (λ (k : ℕ). IsFlow k (placed harts events ++ lines_of harts n event)) (sym may.has.same)
             (subst (IsFlow harts) (one_more harts events event) (all_noticed harts (events ++ event ∷ []) next_inside).flow);
+      }
+
+  -- a line that comes alone may be marked
+  pub may_mark_alone : (line : Line) → lines_of placer.harts (next_number placer.harts events event.hart) event ≡ line ∷ [] → MayMark marker size (placed placer.harts events) lines line
+  may_mark_alone line alone = one (subst (MayMarkAll marker size (placed placer.harts events) lines) alone may_mark_all)
+    where
+      first : (P : Line → Type 0) → All P (line ∷ []) → P line
+      first P all = line_holds P (line ∷ []) all 0 line refl
+
+      one : MayMarkAll marker size (placed placer.harts events) lines (line ∷ []) → MayMark marker size (placed placer.harts events) lines line
+      one all = record {
+        has = all.has;
+        few = (let few : length (placed placer.harts events) + 1 ≤ 16000000 = all.few in omega arith);
+        harts = all.harts;
+        bare = first (λ (l : Line). l.arcs ≡ no_arcs) all.bare;
+        sound = first (IsSoundLine 8) all.sound;
+        flow = all.flow;
       }
 
   -- after the event

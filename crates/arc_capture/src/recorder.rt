@@ -3,12 +3,13 @@ ghost use Rattle.std.specs.Prelude.{◌≡◌, ℕ, ◌⊎◌, ◌≤◌, [], �
 ghost use Rattle.pl_base.specs.declared.layout.TheConstants.{MAX_HARTS};
 ghost use Rattle.pl_event.specs.declared.event.Event.{Event};
 ghost use Rattle.pl_event.specs.declared.log.Line.{Line};
+ghost use Rattle.pl_event.specs.Alerts.{is_alert_kind};
 ghost use Rattle.pl_event.specs.Runs.{IsBlockSize};
 
 use crate::marker::Marker;
 use conflict_alerts::Placer;
 use pl_base::NoMemory;
-use pl_event::{Event, Line};
+use pl_event::{Event, Line, is_alert};
 use std::alloc::Global;
 
 /// A placer, and a marker of its lines.
@@ -41,8 +42,8 @@ impl Recorder {
         })
     }
 
-    // The lines of the next event, in place of what `lines` held.
-    fn record(&mut self, event: &Event, lines: &mut Vec<Line>) -> Result<(), NoMemory>
+    // The lines of the next event and of its notices, in place of what `lines` held.
+    fn record_told(&mut self, event: &Event, lines: &mut Vec<Line>) -> Result<(), NoMemory>
         requires { (size : ℕ) × (events : List Event) × (before : List Line)
             × MayFeed self.old.placer self.old.marker size events before event.now }
         ensures ok { (size : ℕ) (events : List Event) (before : List Line) →
@@ -54,6 +55,41 @@ impl Recorder {
         self.placed.clear();
         self.placer.place_into(event, &mut self.placed)?;
         self.marker.mark_into(&self.placed, lines)
+    }
+
+    // The line of the next event, which is no alert event, in place of what `lines` held.
+    fn record_alone(&mut self, event: &Event, lines: &mut Vec<Line>) -> Result<(), NoMemory>
+        requires feed { (size : ℕ) × (events : List Event) × (before : List Line)
+            × MayFeed self.old.placer self.old.marker size events before event.now }
+        requires alone { is_alert_kind event.now.kind ≡ false }
+        ensures ok { (size : ℕ) (events : List Event) (before : List Line) →
+            MayFeed self.old.placer self.old.marker size events before event.now → OnOk result
+            (HasRecorded self.new.placer self.new.marker size (events ++ event.now ∷ []) (before ++ lines.new.items)) }
+        ensures harts { self.new.placer.harts ≡ self.old.placer.harts }
+        ensures failed { self.new.failed ≡ self.old.failed }
+    {
+        lines.clear();
+        let line = self.placer.place_alone(event);
+        let marked = self.marker.mark(&line)?;
+        lines.push(marked)?;
+        Ok(())
+    }
+
+    // The lines of the next event, in place of what `lines` held.
+    fn record(&mut self, event: &Event, lines: &mut Vec<Line>) -> Result<(), NoMemory>
+        requires { (size : ℕ) × (events : List Event) × (before : List Line)
+            × MayFeed self.old.placer self.old.marker size events before event.now }
+        ensures ok { (size : ℕ) (events : List Event) (before : List Line) →
+            MayFeed self.old.placer self.old.marker size events before event.now → OnOk result
+            (HasRecorded self.new.placer self.new.marker size (events ++ event.now ∷ []) (before ++ lines.new.items)) }
+        ensures harts { self.new.placer.harts ≡ self.old.placer.harts }
+        ensures failed { self.new.failed ≡ self.old.failed }
+    {
+        if is_alert(&event.kind) {
+            self.record_told(event, lines)
+        } else {
+            self.record_alone(event, lines)
+        }
     }
 
     /// The lines of the next event, in place of what `lines` held: before an alert event a notice in each other hart by

@@ -1,8 +1,9 @@
 -- A placer's counts with one line more.
-use Rattle.std.proofs.Common.{◌≡◌, ℕ, zero, suc, ◌+◌, ◌<◌, ◌≤◌, List, [], ◌∷◌, ◌++◌, append_assoc, append-nil, length, set, get_or-set_same, get_or-set_other, slice_index, sym, ap, subst, ◌∙◌, arith}
+use Rattle.std.proofs.Common.{◌≡◌, ℕ, zero, suc, ◌+◌, ◌<◌, ◌≤◌, List, [], ◌∷◌, ◌++◌, append_assoc, append-nil, length, set, get_or-set_same, get_or-set_other, slice_index, refl, sym, ap, subst, Bool, false, if◌then◌else◌, ◌∙◌, arith}
 use mathlib.Core.Logic.{dite}
 use native.Mathlib.Decide.{ℕ_discrete}
 use Rattle.pl_event.specs.declared.log.Line.{Line}
+use Rattle.pl_event.specs.Alerts.{is_alert_kind}
 use Rattle.pl_event.specs.Numbers.{hart_of}
 use Rattle.pl_event.specs.declared.event.Event.{Event}
 use Rattle.conflict_alerts.specs.declared.placer.Placer.{Placer}
@@ -101,3 +102,16 @@ pub lines_more : (old : Placer) (events : List Event) (event : Event) (before af
 lines_more old events event before after may is =
     let number : slice_index old.records event.hart ≡ count_in event.hart (placed old.harts events) = may.has event.hart (let h : event.hart < old.harts = may.hart in let b : old.harts ≤ 8 = may.harts in omega arith) in
     is ∙ ap (λ (n : ℕ). before ++ lines_of old.harts (n + 1) event) number
+
+-- an event that is no alert event has its own line alone
+pub lines_alone : (harts n : ℕ) (event : Event) (line : Line) → is_alert_kind event.kind ≡ false → line ≡ event_line event → lines_of harts n event ≡ line ∷ []
+lines_alone harts n event line calm is =
+    ap (λ (told : ℕ). notices_below event.hart n told ++ event_line event ∷ []) (ap (λ (b : Bool). if b then harts else 0) calm)
+    ∙ ap (λ (z : Line). z ∷ []) (sym is)
+
+pub placed_alone : (old new : Placer) (events : List Event) (event : Event) → MayPlace old events event → is_alert_kind event.kind ≡ false → new.harts ≡ old.harts
+    → length old.records ≡ 8 → new.records ≡ set old.records event.hart (slice_index old.records event.hart + 1) → HasPlaced new (events ++ event ∷ [])
+placed_alone old new events event may calm harts long counted = placed_more old new events event may harts (λ g counts.
+    subst (Counts new.records) (ap (λ (z : List Line). g ++ z) (sym (lines_alone old.harts (slice_index old.records event.hart + 1) event (event_line event) calm refl)))
+    (subst (λ (z : List ℕ). Counts z (g ++ event_line event ∷ [])) (sym counted)
+    (counts_more old.records g (event_line event) event.hart refl (let h : event.hart < old.harts = may.hart in let b : old.harts ≤ 8 = may.harts in omega arith) long counts)))

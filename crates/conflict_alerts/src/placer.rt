@@ -1,8 +1,9 @@
 //! The placer, event by event.
-ghost use Rattle.std.specs.Prelude.{◌≡◌, ℕ, ◌+◌, ◌^◌, ◌<◌, ◌≤◌, [], ◌∷◌, ◌++◌, List, length, IfOk, OnOk, OnErr, slice_index};
+ghost use Rattle.std.specs.Prelude.{◌≡◌, ℕ, ◌+◌, ◌^◌, ◌<◌, ◌≤◌, [], ◌∷◌, ◌++◌, List, length, false, IfOk, OnOk, OnErr, slice_index};
 ghost use Rattle.pl_base.specs.declared.layout.TheConstants.{MAX_HARTS};
 ghost use Rattle.pl_event.specs.declared.event.Event.{Event};
 ghost use Rattle.pl_event.specs.declared.log.Line.{Line};
+ghost use Rattle.pl_event.specs.Alerts.{is_alert_kind};
 ghost use Rattle.pl_event.specs.Numbers.{hart_of};
 ghost use Rattle.conflict_alerts.specs.Placing.{lines_of, next_number, notice_to, notices_below, told_below};
 
@@ -135,6 +136,24 @@ impl Placer {
             self.records = before;
         }
         result
+    }
+
+    /// The one line of the next event, which is no alert event. No memory is taken.
+    #[inline(always)]
+    pub fn place_alone(&mut self, event: &Event) -> Line
+        requires place { (events : List Event) × MayPlace self.old events event.now }
+        requires alone { is_alert_kind event.now.kind ≡ false }
+        ensures line { (events : List Event) → MayPlace self.old events event.now →
+            lines_of self.old.harts (next_number self.old.harts events event.now.hart) event.now ≡ result ∷ [] }
+        ensures placed { (events : List Event) → MayPlace self.old events event.now →
+            HasPlaced self.new (events ++ event.now ∷ []) }
+        ensures harts { self.new.harts ≡ self.old.harts }
+    {
+        self.records[event.hart as usize] += 1;
+        Line {
+            what: Record::Event(*event),
+            arcs: Arcs::none(),
+        }
     }
 
     /// The lines of the next event, as `place_into` adds them. Without memory the placer stays as it was.

@@ -5,7 +5,7 @@ use Rattle.conflict_alerts.specs.Placing.{lines_of, next_number, placed}
 use Rattle.arc_capture.specs.Marker.{HasMarked}
 use Rattle.arc_capture.specs.Recorder.{HasRecorded, MayMarkAll}
 use Rattle.arc_capture.proofs.Feeding.{may_place, may_mark_all, has_recorded}
-use Rattle.arc_capture.proofs.recorder.Recorder.record.Goals as goal
+use Rattle.arc_capture.proofs.recorder.Recorder.record_told.Goals as goal
 
 pub mark_into-requires : goal.mark_into-requires
 mark_into-requires c =

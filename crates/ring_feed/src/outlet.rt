@@ -93,6 +93,9 @@ impl<'a, N: RunName> Outlet<'a, N> {
             IsOutlet N.log (fed ∷ rest) hart self.old → IsOutlet N.log rest hart self.new) }
         ensures room { IfOk result (λ on. on ≡ true → length self.new.part.items < CHUNK_RECORDS) }
     {
+        if self.part.is_empty() {
+            self.part.reserve(CHUNK_RECORDS)?;
+        }
         self.part.push(fed)?;
         if self.has_room() {
             return Ok(true);

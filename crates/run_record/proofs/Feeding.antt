@@ -29,3 +29,19 @@ module _ (first now : Recorder) (before : List Event) (made : List Line) (events
       let front : (before ++ take i events) ++ event ∷ [] ≡ before ++ take (i + 1) events =
       append_assoc before (take i events) (event ∷ []) ∙ ap (λ (es : List Event). before ++ es) (sym (take_more events i event low ∙ ap (λ (e : Event). take i events ++ e ∷ []) is_event)) in
       subst (λ (es : List Event). HasLines new es (made ++ (lines ++ more))) front (subst (HasLines new ((before ++ take i events) ++ event ∷ [])) (append_assoc made lines more) after)
+
+-- the only event of a step
+module _ (first : Recorder) (before : List Event) (made : List Line) (event : Event) where
+  pub may_feed_only : (events : List Event) → slice_get events 0 ≡ Some event → MayFeedAll first before made events → MayFeed first.placer first.marker 16 before made event
+  may_feed_only events found may =
+      let low : 0 < length events = slice_get_within events 0 event found in
+      record {
+        has = may.has;
+        few = omega (arith, may.few, low);
+        valid = subst (λ (e : Event). IsValidEvent e first.placer.harts) (get_or_from_slice_get events 0 event event found) (may.valid 0 event low);
+      }
+
+  pub only : (events : List Event) → slice_get events 0 ≡ Some event → length events ≡ 1 → event ∷ [] ≡ events
+  only [] found one = absurd (omega (arith, one))
+  only (e ∷ []) found one = let same : e ≡ event = cc in ap (λ (z : Event). z ∷ []) (sym same)
+  only (e ∷ (d ∷ es)) found one = absurd (omega (arith, one))

@@ -1,5 +1,5 @@
 //! A run that is recorded step by step.
-ghost use Rattle.std.specs.Prelude.{◌≡◌, ◌≤◌, ◌++◌, suc, [], List, IfOk, OnOk, Ok, false, true};
+ghost use Rattle.std.specs.Prelude.{◌≡◌, ◌≤◌, ◌++◌, suc, [], List, length, IfOk, OnOk, Ok, false, true};
 ghost use Rattle.pl_base.specs.declared.layout.TheConstants.{BLOCK_BYTES};
 ghost use Rattle.pl_event.specs.declared.event.Event.{Event};
 ghost use Rattle.pl_event.specs.declared.log.Line.{Line};
@@ -37,8 +37,21 @@ impl Recording {
         })
     }
 
-    /// The lines of these events, in place of what `lines` held.
-    fn feed(&mut self, events: &EventGroup, lines: &mut Vec<Line>) -> Result<(), NoMemory>
+    // The lines of the only event, in place of what `lines` held.
+    fn feed_one(&mut self, events: &EventGroup, lines: &mut Vec<Line>) -> Result<(), NoMemory>
+        requires feed { (before : List Event) × (made : List Line)
+            × MayFeedAll self.old.recorder before made events.now }
+        requires one { length events.now ≡ 1 }
+        ensures ok { (before : List Event) (made : List Line) → MayFeedAll self.old.recorder before made events.now →
+            OnOk result (HasLines self.new.recorder (before ++ events.now) (made ++ lines.new.items)) }
+        ensures harts { self.new.recorder.placer.harts ≡ self.old.recorder.placer.harts }
+        ensures machine { self.new.machine ≡ self.old.machine }
+    {
+        self.recorder.feed_into(&events.at(0), lines)
+    }
+
+    // The lines of these events, in place of what `lines` held.
+    fn feed_all(&mut self, events: &EventGroup, lines: &mut Vec<Line>) -> Result<(), NoMemory>
         requires { (before : List Event) × (made : List Line) × MayFeedAll self.old.recorder before made events.now }
         ensures ok { (before : List Event) (made : List Line) → MayFeedAll self.old.recorder before made events.now →
             OnOk result (HasLines self.new.recorder (before ++ events.now) (made ++ lines.new.items)) }
@@ -51,6 +64,21 @@ impl Recording {
             lines.extend_from_slice(&self.more)?;
         }
         Ok(())
+    }
+
+    // The lines of these events, in place of what `lines` held.
+    fn feed(&mut self, events: &EventGroup, lines: &mut Vec<Line>) -> Result<(), NoMemory>
+        requires { (before : List Event) × (made : List Line) × MayFeedAll self.old.recorder before made events.now }
+        ensures ok { (before : List Event) (made : List Line) → MayFeedAll self.old.recorder before made events.now →
+            OnOk result (HasLines self.new.recorder (before ++ events.now) (made ++ lines.new.items)) }
+        ensures harts { self.new.recorder.placer.harts ≡ self.old.recorder.placer.harts }
+        ensures machine { self.new.machine ≡ self.old.machine }
+    {
+        if events.len() == 1 {
+            self.feed_one(events, lines)
+        } else {
+            self.feed_all(events, lines)
+        }
     }
 
     /// Takes the next step of the run, and puts the lines of its events in place of what `lines` held; false where the

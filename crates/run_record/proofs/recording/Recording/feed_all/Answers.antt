@@ -4,7 +4,7 @@ use Rattle.pl_event.specs.declared.event.Event.{Event}
 use Rattle.pl_event.specs.declared.log.Line.{Line}
 use Rattle.run_record.specs.Recording.{HasLines}
 use Rattle.run_record.proofs.Feeding.{may_feed, fed_more}
-use Rattle.run_record.proofs.recording.Recording.feed.Goals as goal
+use Rattle.run_record.proofs.recording.Recording.feed_all.Goals as goal
 
 pub feed_into-requires : goal.feed_into-requires
 feed_into-requires c =

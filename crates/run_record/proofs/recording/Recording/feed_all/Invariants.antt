@@ -2,7 +2,7 @@ use Rattle.std.proofs.Common.{◌≡◌, ◌++◌, List, take}
 use Rattle.pl_event.specs.declared.event.Event.{Event}
 use Rattle.pl_event.specs.declared.log.Line.{Line}
 use Rattle.run_record.specs.Recording.{HasLines, MayFeedAll}
-use Rattle.run_record.proofs.recording.Recording.feed.Given as goal
+use Rattle.run_record.proofs.recording.Recording.feed_all.Given as goal
 
 abbrev pub invariant-events : goal.invariant-events
 invariant-events l = record {

@@ -14,11 +14,15 @@ use Rattle.pl_event.specs.declared.log.Record.TheVariants as entry
 use Rattle.pl_event.proofs.Places.{line_number_of, line_number_next}
 use Rattle.log_text.specs.declared.cause.LogCause.TheVariants.{Page}
 use Rattle.log_grammar.specs.Form.{IsPointInForm, most_written}
-use Rattle.log_grammar.specs.Spelling.{Entry, row, row_of, points_from}
-use Rattle.log_text.specs.WellFormed.{IsWritable, Continues, breaks, breaks_hart, breaks_arc, breaks_notice, names_past, is_bad_notice, is_waiting, is_pending, is_row_of, records_in, rules_of_any_length}
+use Rattle.log_grammar.specs.Spelling.{Entry, row, row_of, points_from, entries_of}
+use Rattle.log_text.specs.WellFormed.{Continues, IsLawful, breaks, breaks_hart, breaks_arc, breaks_notice, names_past, is_bad_notice, is_waiting, is_pending, is_row_of, records_in, rules_of_any_length}
 use Rattle.log_text.proofs.ArcPoints.{arc_holds, none_passes}
 use Rattle.log_text.proofs.LinesBefore.{front_of, parted, records_at, fails_before}
 use Rattle.log_text.proofs.RuleLemmas.{find-None, fails_at}
+
+-- each line of the log continues those before it
+abbrev pub AreLawful : Log → Type 0
+AreLawful log = IsLawful rules_of_any_length most_written log.harts (entries_of log)
 
 -- What the rules give of a line
 
@@ -52,10 +56,10 @@ keeps_flow harts before what points continues =
       told = told.0;
     }
 
-line_keeps : (log : Log) → IsWritable log → (i : ℕ) (line : Line) → get_elem? log.lines i ≡ some line → KeepsFlow log.harts (front_of log i) line.what (points_from 0 line.arcs)
-line_keeps log writable i line at =
+line_keeps : (log : Log) → AreLawful log → (i : ℕ) (line : Line) → get_elem? log.lines i ≡ some line → KeepsFlow log.harts (front_of log i) line.what (points_from 0 line.arcs)
+line_keeps log lawful i line at =
     keeps_flow log.harts (front_of log i) line.what (points_from 0 line.arcs)
-    (writable.lawful (front_of log i) (map row_of (drop (suc i) log.lines)) (row_of line) (parted log i line at))
+    (lawful (front_of log i) (map row_of (drop (suc i) log.lines)) (row_of line) (parted log i line at))
 
 hart_within : (harts : ℕ) (what : Record) → names_past harts what ≡ false → hart_of what < harts
 hart_within harts (entry.Event event) within = leb-false harts event.hart within
@@ -79,11 +83,11 @@ told_later harts before h u n points keeps =
 has_come : (before : List Entry) (h u n : ℕ) (points : List Point) → (is_pending before (row (notice_of h u n) points) && eqb h h) ≡ false → n ≤ records_in u before
 has_come before h u n points fails = ltb-false (records_in u before) n (both_fail (ltb (records_in u before) n) (eqb h h) (eq-eqb h h refl) fails)
 
-pub flows : (log : Log) → IsWritable log → IsFlow log.harts log.lines
-flows log writable = record {
-  within = λ i h m line is. subst (λ (x : ℕ). x < log.harts) is.hart (hart_within log.harts line.what (line_keeps log writable i line is.at).within);
+pub flows : (log : Log) → AreLawful log → IsFlow log.harts log.lines
+flows log lawful = record {
+  within = λ i h m line is. subst (λ (x : ℕ). x < log.harts) is.hart (hart_within log.harts line.what (line_keeps log lawful i line is.at).within);
   arcs = λ i h m line is u n arc.
-      let keeps = line_keeps log writable i line is.at in
+      let keeps = line_keeps log lawful i line is.at in
       let holds = λ (P : Point → Type 0) (all : AllByRecursion P (points_from 0 line.arcs)). arc_holds P line.arcs u n arc all in (
         leb-false log.harts u (holds (λ (point : Point). leb log.harts point.hart ≡ false) keeps.named),
         eqb-false u h (rw (← is.hart) (holds (λ (point : Point). eqb point.hart (hart_of line.what) ≡ false) keeps.others)),
@@ -91,11 +95,11 @@ flows log writable = record {
         subst (λ (r : ℕ). n ≤ r) (records_at log u i) (ltb-false (records_in u (front_of log i)) n (holds (λ (point : Point). ltb (records_in point.hart (front_of log i)) point.number ≡ false) keeps.come)),
       );
   notices = λ i h m line is u n told.
-      let keeps = subst (λ (what : Record). KeepsFlow log.harts (front_of log i) what (points_from 0 line.arcs)) told (line_keeps log writable i line is.at) in
+      let keeps = subst (λ (what : Record). KeepsFlow log.harts (front_of log i) what (points_from 0 line.arcs)) told (line_keeps log lawful i line is.at) in
       let later = told_later log.harts (front_of log i) h u n (points_from 0 line.arcs) keeps in
       (later.0, later.1, subst (λ (r : ℕ). r < n) (records_at log u i) later.2);
   closed = λ i h m line is u n notice.
-      let keeps = line_keeps log writable i line is.at in
+      let keeps = line_keeps log lawful i line is.at in
       let k = notice.0 in
       let of = notice.1 in
       let there = notice.2 in

@@ -14,6 +14,7 @@ pub mod OneFault
 pub mod RowRules
 pub mod RuleLemmas
 pub mod RunOfText
+pub mod SoundLines
 pub mod TallyLemmas
 pub mod TextOfRun
 pub mod WriteLemmas

@@ -1,5 +1,5 @@
 -- A log that may be written is the log of a run.
-use Rattle.std.proofs.Common.{◌≡◌, ℕ, zero, suc, ◌+◌, ◌<◌, ◌≤◌, Bool, true, false, not, eqb, ltb, leb, ◌&&◌, List, [], ◌∷◌, ◌++◌, length, map, drop, replicate, inl, inr, Option, None, refl, sym, ap, subst, ◌∙◌, append_assoc, arith}
+use Rattle.std.proofs.Common.{◌≡◌, ℕ, zero, suc, ◌+◌, ◌<◌, ◌≤◌, Bool, true, false, not, eqb, ltb, ◌&&◌, List, [], ◌∷◌, ◌++◌, length, map, drop, inl, inr, refl, sym, ap, subst, ◌∙◌, append_assoc, arith}
 use Rattle.std.specs.Prelude.{count_by}
 use Rattle.std.specs.List.{list_any}
 use Rattle.std.proofs.lemmas.Bool.{false≢true, or_parts, and_from, cases_lt, true_from_ne_false, ltb-false, leb-false, eq-eqb, not-false}
@@ -19,22 +19,23 @@ use Rattle.pl_event.specs.declared.log.PageRun.{PageRun}
 use Rattle.pl_event.specs.declared.log.Record.{Record}
 use Rattle.pl_event.specs.declared.log.Record.TheVariants as entry
 use Rattle.pl_event.proofs.Places.{record_at, before_own, before_other, before_up}
-use Rattle.pl_event.proofs.MappedPages.{line_holds, line_at}
+use Rattle.pl_event.proofs.MappedPages.{line_at}
 use Rattle.pl_event.proofs.Places as places
 use Rattle.log_text.specs.declared.cause.LogCause.TheVariants.{Page}
-use Rattle.log_grammar.specs.Form.{IsPointInForm, IsRecordInForm, MayHave, most_written}
+use Rattle.log_grammar.specs.Form.{IsPointInForm, IsRecordInForm, most_written}
 use Rattle.log_text.specs.Pages.{some_page}
 use Rattle.log_grammar.specs.Spelling.{Entry, page, row, row_of, points_from, entries_of}
-use Rattle.log_text.specs.WellFormed.{is_row, is_end_of, is_pending, is_notice_of, is_awaited, on_event, records_in, mapped_in, pages_mapped, breaks, breaks_records, breaks_ended, breaks_notice, is_bad_notice, is_bad_map, Continues, IsLawful, IsWellFormed, IsWritable, rules_in_order, rules_of_any_length}
+use Rattle.log_text.specs.WellFormed.{is_row, is_end_of, is_pending, is_notice_of, is_awaited, on_event, records_in, mapped_in, pages_mapped, breaks, breaks_records, breaks_ended, breaks_notice, is_bad_notice, is_bad_map, IsLawful, IsWellFormed, IsWritable, rules_in_order, rules_of_any_length}
 use Rattle.log_text.proofs.Flow.{flows}
+use Rattle.log_text.proofs.SoundLines.{lines_sound, row_continues, row_keeps}
 use Rattle.pl_base.proofs.Pages.{count_none}
 use Rattle.log_text.proofs.RuleLemmas.{find-None, fails_at}
 use Rattle.pl_event.specs.Mapping.{KeepsPages, mapped_at}
-use Rattle.pl_event.specs.Runs.{HasNumbersTo, IsRunLog, IsSoundLine, IsSoundRecord, IsAlert, EventAt, ends_hart}
-use Rattle.log_text.proofs.LinesBefore.{front_of, parted, records_at, rows_at, fails_before, each_line}
-use Rattle.log_text.proofs.ArcPoints.{no_points, arc_holds}
+use Rattle.pl_event.specs.Runs.{HasNumbersTo, IsRunLog, IsAlert, EventAt, ends_hart}
+use Rattle.log_text.proofs.LinesBefore.{front_of, parted, records_at, rows_at, fails_before}
+use Rattle.log_text.proofs.ArcPoints.{arc_holds}
 use Rattle.log_text.proofs.MappedLines.{EachSound, rise_from, few_pages, each_fails, mapped_same, counted_same}
-use Rattle.log_text.proofs.RowRules.{RowSound, row_sound, page_sound, valid_kind}
+use Rattle.log_text.proofs.RowRules.{RowSound, page_sound}
 
 -- page lines, one after the other
 pages_sound : (most harts : ℕ) (before : List Entry) (pages : List PageRun) (rest : List Entry) → IsLawful rules_of_any_length most harts (before ++ (map page pages ++ rest)) → EachSound before pages
@@ -45,29 +46,8 @@ pages_sound most harts before (run ∷ pages) rest lawful = (
 )
 
 module _ (log : Log) (writable : IsWritable log) where
-  row_continues : (i : ℕ) (line : Line) → get_elem? log.lines i ≡ some line → Continues rules_of_any_length most_written log.harts (front_of log i) (row_of line)
-  row_continues i line at = writable.lawful (front_of log i) (map row_of (drop (suc i) log.lines)) (row_of line) (parted log i line at)
-
   keeps : (i : ℕ) (line : Line) → get_elem? log.lines i ≡ some line → RowSound log.harts (front_of log i) line.what (points_from 0 line.arcs)
-  keeps i line at = row_sound most_written log.harts (front_of log i) line.what (points_from 0 line.arcs) (row_continues i line at)
-
-  -- lines
-
-  record_of_row : (i : ℕ) (line : Line) → get_elem? log.lines i ≡ some line → length line.arcs ≡ 8 → (what : Record) → line.what ≡ what → IsRecordInForm most_written what → MayHave what (points_from 0 line.arcs) → IsSoundRecord log.harts line.arcs what
-  record_of_row i line at long (entry.Event event) is form may =
-      let sound : RowSound log.harts (front_of log i) (entry.Event event) (points_from 0 line.arcs) = subst (λ (w : Record). RowSound log.harts (front_of log i) w (points_from 0 line.arcs)) is (keeps i line at) in
-      let known : leb log.harts event.hart ≡ false = (or_parts (leb log.harts event.hart) _ sound.hart).0 in
-      (leb-false log.harts event.hart known, valid_kind (front_of log i) event.kind form.1 sound.access sound.range sound.map)
-  record_of_row i line at long (entry.Notice own of) is form may =
-      no_points line.arcs 0 may ∙ ap (λ (n : ℕ). none_of n) long
-    where
-      none_of : ℕ → List (Option ℕ)
-      none_of n = replicate n None
-
-  line_sound : (i : ℕ) (line : Line) → get_elem? log.lines i ≡ some line → length line.arcs ≡ 8 → IsSoundLine log.harts line
-  line_sound i line at long =
-      let form = (row_continues i line at).in_form in
-      (long, record_of_row i line at long line.what refl form.0 form.2)
+  keeps = row_keeps log writable.lawful
 
   -- notices
 
@@ -98,7 +78,7 @@ module _ (log : Log) (writable : IsWritable log) where
   alerts : (h k u n : ℕ) → IsNotice log.lines h k u n → IsAlert log.lines u n
   alerts h k u n notice =
       let i = notice.0 in
-      let flow : IsFlow log.harts log.lines = flows log writable in
+      let flow : IsFlow log.harts log.lines = flows log writable.lawful in
       let told = flow.notices i h k notice.1 notice.2 u n notice.3 in
       let t = record_at log.lines (length log.lines) u n (omega (arith, told.2)) (come h k u n notice) in
       let j = t.0 in
@@ -169,8 +149,8 @@ module _ (log : Log) (writable : IsWritable log) where
           rising = rise_from [] log.pages sound;
           room = omega (arith, few_pages [] log.pages sound (λ p from. refl) (omega (arith, count_none 4096)));
         };
-        sound = each_line (IsSoundLine log.harts) log.lines (λ i line at. line_sound i line at (line_holds (λ (l : Line). length l.arcs ≡ 8) log.lines writable.eight i line at));
-        flow = flows log writable;
+        sound = lines_sound log writable.lawful writable.eight;
+        flow = flows log writable.lawful;
         alerts = alerts;
         live = live;
         maps = maps;
@@ -179,9 +159,9 @@ module _ (log : Log) (writable : IsWritable log) where
   -- the numbers that its lines name have 32 bits
   pub numbers_of_text : HasNumbersTo most_written log.lines
   numbers_of_text = record {
-    arcs = λ i line at u n is. (arc_holds (IsPointInForm most_written) line.arcs u n is (row_continues i line at).in_form.1).2;
+    arcs = λ i line at u n is. (arc_holds (IsPointInForm most_written) line.arcs u n is (row_continues log writable.lawful i line at).in_form.1).2;
     notices = λ h k u n notice.
-        let form : IsRecordInForm most_written (notice_of h u n) = subst (IsRecordInForm most_written) notice.3 (row_continues notice.0 notice.1 notice.2.at).in_form.0 in
+        let form : IsRecordInForm most_written (notice_of h u n) = subst (IsRecordInForm most_written) notice.3 (row_continues log writable.lawful notice.0 notice.1 notice.2.at).in_form.0 in
         form.1.2;
   }
 

@@ -65,7 +65,7 @@ in_form : (e : Entry) → IsInForm most_read e → IsInForm most_written e
 in_form (page run) form = form
 in_form (row what points) form = (record_in_form what form.0, points_in_form points form.1, form.2)
 
-continues : (harts : ℕ) (before : List Entry) (e : Entry) → Continues rules_in_order most_read harts before e → Continues rules_of_any_length most_written harts before e
+pub continues : (harts : ℕ) (before : List Entry) (e : Entry) → Continues rules_in_order most_read harts before e → Continues rules_of_any_length most_written harts before e
 continues harts before e read = record {
   in_form = in_form e read.in_form;
   breaks_none =

@@ -23,7 +23,7 @@ mod write;
 pub use cause::{LogCause, LogFault, LogRefused};
 pub use faults::one_fault;
 pub use grow::{add_line, begin_log};
-pub use laws::log_laws;
+pub use laws::{log_laws, streamed_lines};
 pub use read::read_log;
 pub use reader::Row;
 pub use source::read_source;

@@ -24,7 +24,6 @@ impl<L: Lifeguard> Worker<L> {
         ensures guard { IfOk result (λ worker. ⟦<Worker<L> as TurnWorker>⟧.guard worker ≡ guard) }
     {
         Ok(Worker {
-            alloc,
             guard,
             seat,
             state: State::new(alloc),

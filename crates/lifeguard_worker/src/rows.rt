@@ -64,6 +64,14 @@ impl Rows {
         }
     }
 
+    /// Forgets all records, and keeps their room.
+    pub(crate) fn clear(&mut self)
+        ensures { self.new ≡ [] }
+    {
+        self.rows.clear();
+        self.needs.clear();
+    }
+
     /// How many there are.
     #[inline]
     pub(crate) fn len(&self) -> usize

@@ -38,7 +38,7 @@ impl<L: Lifeguard> Worker<L> {
     {
         if self.state.taken as usize == self.fed {
             self.before = self.fed;
-            self.stream = Rows::new(self.alloc);
+            self.stream.clear();
         }
     }
 }

@@ -71,7 +71,6 @@ impl<L: Lifeguard> TurnWorker for Worker<L> {
 
     fn end(self) -> (HartResult, GuardSeat) {
         let Worker {
-            alloc: _,
             guard: _,
             seat,
             state,

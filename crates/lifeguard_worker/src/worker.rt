@@ -5,13 +5,11 @@ ghost use Rattle.lifeguard_worker.specs.Workers.{IsWorker};
 use crate::rows::Rows;
 use guard_table::GuardSeat;
 use lifeguard::Lifeguard;
-use std::alloc::Global;
 use worker_records::State;
 
 /// The worker of one hart under a lifeguard.
 #[derive(Drop)]
 pub struct Worker<L: Lifeguard> {
-    pub(crate) alloc: Global,
     pub(crate) guard: L,
     pub(crate) seat: GuardSeat,
     pub(crate) state: State,

@@ -1,2 +1,4 @@
 pub mod Watched
 pub mod Partners
+pub mod Traces
+pub mod Traced

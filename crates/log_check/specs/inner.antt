@@ -2,3 +2,4 @@ pub mod Watched
 pub mod Partners
 pub mod Traces
 pub mod Traced
+pub mod Settled

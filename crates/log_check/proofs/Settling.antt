@@ -1,5 +1,5 @@
 -- The next line of a check: what its calls need, and what holds once its clock is known.
-use Rattle.std.proofs.Common.{◌≡◌, ℕ, ◌+◌, ◌^◌, ◌<◌, ◌≤◌, length, slice_index, Some, slice_get, List, refl, sym, ap, ◌∙◌, subst, arith}
+use Rattle.std.proofs.Common.{◌≡◌, ℕ, ◌+◌, ◌^◌, ◌<◌, ◌≤◌, length, slice_index, Some, slice_get, refl, sym, ap, subst, arith}
 use Rattle.pl_event.specs.declared.event.Event.{Event}
 use Rattle.pl_event.specs.declared.heads.Heads.{Heads}
 use Rattle.pl_event.specs.declared.log.Line.{Line}

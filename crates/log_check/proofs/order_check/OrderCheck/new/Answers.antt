@@ -1,4 +1,4 @@
-use Rattle.std.proofs.Common.{ℕ, length, List, ap, sym, subst}
+use Rattle.std.proofs.Common.{ℕ, sym, subst}
 use Rattle.log_clocks.specs.LastAccesses.{HasLast}
 use Rattle.log_check.proofs.Clearing.{nothing_ordered}
 use Rattle.log_check.proofs.Tracing.{nothing_traced}

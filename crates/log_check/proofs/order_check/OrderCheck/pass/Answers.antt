@@ -21,10 +21,13 @@ settle-requires c =
     let may = c.requires.2 in
     let line = c.args.line.now in
     let h = c.record_hart-hart.result in
-    let next = line_next log.lines at h line may.here c.record_hart-hart.ensures in
-    (log, at, settled c.args.self.now c.next.new.self log at line c.in_ok-clock.clock may h c.record_hart-hart.ensures
-    (c.in_ok-clock.ensures.ok log.harts log.lines at line may.checkable.flow may.checkable.few may.checked.clocks next
-    (c.needs-needs.ensures log.harts log.lines at may.checkable.flow may.checked.tells next)))
+    let next = line_next log.lines at h line may.here c.record_hart-hart.ensures in (
+      log,
+      at,
+      settled c.args.self.now c.next.new.self log at line c.in_ok-clock.clock may h c.record_hart-hart.ensures
+          (c.in_ok-clock.ensures.ok log.harts log.lines at line may.checkable.flow may.checkable.few may.checked.clocks next
+          (c.needs-needs.ensures log.harts log.lines at may.checkable.flow may.checked.tells next)),
+    )
 
 pub returns : goal.returns
 returns c log at may =

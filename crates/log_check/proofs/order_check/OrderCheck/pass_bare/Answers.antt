@@ -25,11 +25,14 @@ settle-requires c =
     let line : Line = record { what = c.args.what; arcs = c.none-arcs.result } in
     let may : MayPass c.args.self.now log at line = subst (λ (z : List (Option ℕ)). MayPass c.args.self.now log at (record { what = c.args.what; arcs = z })) (sym c.none-arcs.ensures) c.requires.2 in
     let h = c.record_hart-hart.result in
-    let next = line_next log.lines at h line may.here c.record_hart-hart.ensures in
-    (log, at, settled c.args.self.now c.next_alone.new.self log at line c.in_ok-clock.clock may h c.record_hart-hart.ensures
-    (c.in_ok-clock.ensures.ok log.harts log.lines at line may.checkable.flow may.checkable.few may.checked.clocks next
-    (needs_bare log.harts log.lines may.checkable.flow at h line next c.none-arcs.ensures
-    (c.is_unnoticed.ensures.yes c.if-not-is_unnoticed.false log.harts log.lines at line may.checkable.flow may.checked.tells next))))
+    let next = line_next log.lines at h line may.here c.record_hart-hart.ensures in (
+      log,
+      at,
+      settled c.args.self.now c.next_alone.new.self log at line c.in_ok-clock.clock may h c.record_hart-hart.ensures
+          (c.in_ok-clock.ensures.ok log.harts log.lines at line may.checkable.flow may.checkable.few may.checked.clocks next
+          (needs_bare log.harts log.lines may.checkable.flow at h line next c.none-arcs.ensures
+          (c.is_unnoticed.ensures.yes c.if-not-is_unnoticed.false log.harts log.lines at line may.checkable.flow may.checked.tells next))),
+    )
 
 pub returns : goal.returns
 returns c log at given =

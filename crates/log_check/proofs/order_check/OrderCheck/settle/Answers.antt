@@ -1,4 +1,4 @@
-use Rattle.std.proofs.Common.{◌≡◌, ℕ, ◌+◌, ◌++◌, [], ◌∷◌, List, refl, sym, ap, ◌∙◌, subst}
+use Rattle.std.proofs.Common.{◌≡◌, ℕ, ◌+◌, List, refl, sym, ap, ◌∙◌, subst}
 use Rattle.pl_event.specs.Heads.{IsNext}
 use Rattle.pl_event.specs.Numbers.{hart_of}
 use Rattle.pl_event.specs.Records.{records_before, IsRecord}

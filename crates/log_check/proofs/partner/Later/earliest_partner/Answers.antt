@@ -24,9 +24,9 @@ returns-then-has_partner c harts g m sought =
     let b = c.args.self.now.event in
     let l = line_at c.args.trace.now c.args.now.now harts g b m (time c.args.self.now.clock) sought x o c.get-outline.ensures.outline in
     let number : slice_index (set c.loop-x.numbers o.hart (slice_index c.loop-x.numbers o.hart + 1)) o.hart ≡ records_before o.hart g x + 1
-        = number_now g x o.hart c.loop-x.numbers c.loop-x.invariant.eight c.get-outline.ensures.hart (c.loop-x.invariant.numbers harts g m sought) in
+    = number_now g x o.hart c.loop-x.numbers c.loop-x.invariant.eight c.get-outline.ensures.hart (c.loop-x.invariant.numbers harts g m sought) in
     let p = c.has_partner.ensures.yes harts g x (length c.args.trace.now) m l.0 sought.later (let t : x < c.len-x-end.result = c.loop-x-test.true in let e : c.len-x-end.result ≡ length c.args.trace.now = c.len-x-end.ensures in omega arith)
-        (subst (λ (z : ℕ). IsRecord g x o.hart z l.0) (sym number) l.1) (subst (λ (z : ℕ). IsOutline g z l.0.what o) (sym number) l.2) sought.tells c.if-has_partner.true in
+    (subst (λ (z : ℕ). IsRecord g x o.hart z l.0) (sym number) l.1) (subst (λ (z : ℕ). IsOutline g z l.0.what o) (sym number) l.2) sought.tells c.if-has_partner.true in
     record {
       i = x;
       a = p.0;
@@ -52,7 +52,7 @@ loop-x-preserved c =
       clear = λ harts g m sought.
           let l = line_at c.args.trace.now c.args.now.now harts g b m (time c.args.self.now.clock) sought x o c.get-outline.ensures.outline in
           let number : slice_index (set c.loop-x.numbers o.hart (slice_index c.loop-x.numbers o.hart + 1)) o.hart ≡ records_before o.hart g x + 1
-              = number_now g x o.hart c.loop-x.numbers c.loop-x.invariant.eight c.get-outline.ensures.hart (c.loop-x.invariant.numbers harts g m sought) in
+          = number_now g x o.hart c.loop-x.numbers c.loop-x.invariant.eight c.get-outline.ensures.hart (c.loop-x.invariant.numbers harts g m sought) in
           clear_more c.args.self.now.size g (length c.args.trace.now) m b sought.later.event x
           (c.has_partner.ensures.no harts g x (length c.args.trace.now) m l.0 sought.later (let t : x < c.len-x-end.result = c.loop-x-test.true in let e : c.len-x-end.result ≡ length c.args.trace.now = c.len-x-end.ensures in omega arith)
           (subst (λ (z : ℕ). IsRecord g x o.hart z l.0) (sym number) l.1) (subst (λ (z : ℕ). IsOutline g z l.0.what o) (sym number) l.2) sought.tells c.if-has_partner.false)

@@ -1,7 +1,6 @@
-use Rattle.std.proofs.Common.{◌≡◌, ℕ, ◌<◌, List, sym, subst, ◌∙◌, ap}
+use Rattle.std.proofs.Common.{◌≡◌, ℕ, ◌<◌, List, sym, subst, ◌∙◌}
 use Rattle.pl_event.specs.declared.event.Event.{Event}
 use Rattle.pl_event.specs.declared.log.Line.{Line}
-use Rattle.pl_event.specs.Conflicts.{IsPair}
 use Rattle.pl_event.specs.Records.{IsRecord}
 use Rattle.pl_event.specs.Unordered.{IsOrderedPair}
 use Rattle.log_clocks.proofs.Accesses.{at_one}
@@ -29,9 +28,11 @@ returns-then-outline-self c = record {
         → IsRecord g x c.args.outline.hart c.args.number line → IsOutline g c.args.number line.what c.args.outline
         → (a : Event) × IsEarlier g x at c.args.outline.hart c.args.number c.args.outline.part a c.args.self.now.event m
     the harts g x at m line later low is o =
-        let e = outlined g x c.args.outline.hart c.args.number line c.args.outline is o c.in_default.not-Other in
-        (e.0, record {
-          pair = record { before = low; first = e.1; second = later.event; apart = λ same. c.if-outline-self.true (sym e.2 ∙ same) };
-          own = e.2;
-          kind = e.3;
-        })
+        let e = outlined g x c.args.outline.hart c.args.number line c.args.outline is o c.in_default.not-Other in (
+          e.0,
+          record {
+            pair = record { before = low; first = e.1; second = later.event; apart = λ same. c.if-outline-self.true (sym e.2 ∙ same) };
+            own = e.2;
+            kind = e.3;
+          },
+        )

@@ -1,4 +1,4 @@
-use Rattle.std.proofs.Common.{◌↔◌, ℕ, ◌+◌, Bool, IsTrue, sym, subst}
+use Rattle.std.proofs.Common.{◌↔◌, ℕ, Bool, IsTrue, sym, subst}
 use Rattle.std.specs.Bool.{MatchBool}
 use Rattle.pl_event.specs.Conflicts.{HasNotice}
 use Rattle.log_check.proofs.Positions.{next_of}

@@ -1,4 +1,4 @@
-use Rattle.std.proofs.Common.{◌≡◌, Bool, true, false, not, inl, inr, sym, ap, ◌∙◌}
+use Rattle.std.proofs.Common.{◌≡◌, Bool, true, false, not, inr, sym, ap, ◌∙◌}
 use Rattle.log_check.proofs.partner.Later.is_unordered.Goals as goal
 
 pub returns-then-overlooks-clause-yes : goal.returns-then-overlooks-clause-yes

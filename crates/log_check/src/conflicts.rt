@@ -1,8 +1,13 @@
 //! Whether two events conflict, and by what.
-ghost use Rattle.std.specs.Prelude.{◌≡◌, ◌↔◌, ◌<◌, IsTrue, None, Some, MatchOption};
+ghost use Rattle.std.specs.Prelude.{◌≡◌, ◌↔◌, ℕ, ◌<◌, List, IsTrue};
+ghost use Rattle.pl_event.specs.declared.event.Event.{Event};
+ghost use Rattle.pl_event.specs.declared.log.Line.{Line};
 ghost use Rattle.pl_event.specs.Conflicts.{access_of, ShareBlock, MeetByAlert};
+ghost use Rattle.log_check.specs.inner.Touches.{access_in};
+ghost use Rattle.log_check.specs.inner.Traced.{IsPart};
 
 use crate::alerts::is_access;
+use crate::trace::Part;
 use pl_event::{Kind, is_alert};
 
 /// A block, and whether it is written.
@@ -15,8 +20,7 @@ pub(crate) struct Touched {
 // What a load or a store touches.
 fn block_of(size: u8, kind: &Kind) -> Option<Touched>
     requires { 0 < size }
-    ensures { MatchOption result (access_of size kind.now ≡ None) (λ touched.
-        access_of size kind.now ≡ Some (record { block = touched.block; store = touched.is_store })) }
+    ensures { access_in result ≡ access_of size kind.now }
 {
     let size = u32::from(size);
     match *kind {
@@ -42,13 +46,32 @@ fn block_of(size: u8, kind: &Kind) -> Option<Touched>
     }
 }
 
-/// Whether both are accesses to one block, and one is a store.
-pub(crate) fn share_block(size: u8, a: &Kind, b: &Kind) -> bool
+// The same, where only a part of the event is known.
+fn block_in(size: u8, part: Part) -> Option<Touched>
     requires { 0 < size }
-    ensures { IsTrue result ↔ ShareBlock (access_of size a.now) (access_of size b.now) }
+    ensures { (lines : List Line) (event : Event) (n : ℕ) → IsPart lines event n part →
+        access_in result ≡ access_of size event.kind }
 {
-    match block_of(size, a) {
-        Some(a) => match block_of(size, b) {
+    let size = u32::from(size);
+    match part {
+        Part::Load(addr) => Some(Touched {
+            block: addr / size,
+            is_store: false,
+        }),
+        Part::Store(addr) => Some(Touched {
+            block: addr / size,
+            is_store: true,
+        }),
+        Part::Other | Part::Alert(_) => None,
+    }
+}
+
+// Whether both touch one block, and one writes it.
+fn is_shared(a: Option<Touched>, b: Option<Touched>) -> bool
+    ensures { IsTrue result ↔ ShareBlock (access_in a) (access_in b) }
+{
+    match a {
+        Some(a) => match b {
             Some(b) => a.block == b.block && (a.is_store || b.is_store),
             None => false,
         },
@@ -56,9 +79,24 @@ pub(crate) fn share_block(size: u8, a: &Kind, b: &Kind) -> bool
     }
 }
 
-/// Whether one is an alert event, and the other a load, a store or an alert event.
-pub(crate) fn meet_by_alert(a: &Kind, b: &Kind) -> bool
-    ensures { IsTrue result ↔ MeetByAlert a.now b.now }
+/// Whether an event with this part and one of this kind are accesses to one block, and one is a store.
+pub(crate) fn share_block(size: u8, a: Part, b: &Kind) -> bool
+    requires { 0 < size }
+    ensures { (lines : List Line) (event : Event) (n : ℕ) → IsPart lines event n a →
+        IsTrue result ↔ ShareBlock (access_of size event.kind) (access_of size b.now) }
 {
-    is_alert(a) && (is_access(b) || is_alert(b)) || is_access(a) && is_alert(b)
+    is_shared(block_in(size, a), block_of(size, b))
+}
+
+/// Whether of an event with this part and one of this kind one is an alert event, and the other a load, a store or an
+/// alert event.
+pub(crate) fn meet_by_alert(a: Part, b: &Kind) -> bool
+    ensures { (lines : List Line) (event : Event) (n : ℕ) → IsPart lines event n a →
+        IsTrue result ↔ MeetByAlert event.kind b.now }
+{
+    match a {
+        Part::Other => false,
+        Part::Load(_) | Part::Store(_) => is_alert(b),
+        Part::Alert(_) => is_access(b) || is_alert(b),
+    }
 }

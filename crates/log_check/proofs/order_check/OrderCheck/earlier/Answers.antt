@@ -1,8 +1,8 @@
-use Rattle.std.proofs.Common.{subst}
-use Rattle.pl_event.specs.declared.log.Record.{Record}
-use Rattle.pl_event.specs.Runs.{IsSoundRecord}
-use Rattle.log_check.proofs.Positions.{sound_line}
+use Rattle.pl_event.proofs.Before.{got}
+use Rattle.log_check.proofs.Clearing.{clear_nothing}
+use Rattle.log_check.proofs.Positions.{not_notice}
 use Rattle.log_check.proofs.order_check.OrderCheck.earlier.Goals as goal
 
-pub partner-requires-clause-valid : goal.partner-requires-clause-valid
-partner-requires-clause-valid c = subst (λ (z : Record). IsSoundRecord 8 c.args.line.now.arcs z) c.in-Event.is (sound_line c.args.log.now.harts c.args.log.now.lines c.requires.log.few c.requires.log.sound c.args.at c.args.line.now c.requires.line.at).1
+pub returns-in-Notice : goal.returns-in-Notice
+returns-in-Notice c log at may = clear_nothing log.block log.lines at at
+    (not_notice log.lines at c.args.line.now c.in-Notice.hart c.in-Notice.of (got log.lines at c.args.line.now may.here) c.in-Notice.is)

@@ -1,39 +1,39 @@
-use Rattle.std.proofs.Common.{◌≡◌, ℕ, ◌+◌, ◌<◌, ◌≤◌, length, refl, sym, ap, ◌∙◌, subst, arith}
-use Rattle.pl_event.specs.Edges.{Into}
-use Rattle.pl_event.specs.Graph.{IsClock}
-use Rattle.pl_event.specs.Numbers.{hart_of}
-use Rattle.pl_event.specs.Heads.{IsNext}
-use Rattle.pl_event.specs.Records.{records_before, IsRecord}
-use Rattle.pl_event.proofs.Before.{got}
-use Rattle.pl_event.proofs.Places.{before_most}
-use Rattle.log_clocks.specs.Clocks.{slots, time}
-use Rattle.log_check.proofs.Clearing.{names_first, ordered_more}
-use Rattle.log_check.proofs.Positions.{event_hart, record_room, line_room, line_next, sound_line}
+use Rattle.log_check.proofs.Positions.{line_next}
+use Rattle.log_check.proofs.Settling.{pass_room, pass_slots, settled}
 use Rattle.log_check.proofs.order_check.OrderCheck.pass.Goals as goal
 
 pub needs-needs-requires-clause-hart : goal.needs-needs-requires-clause-hart
-needs-needs-requires-clause-hart c = subst (λ (z : ℕ). z < 8) (sym c.record_hart-hart.ensures) (line_room c.args.log.now.harts c.args.log.now.lines c.requires.log.flow c.requires.log.few c.requires.few c.args.self.now.heads c.args.at c.args.line.now c.requires.checked.tells c.requires.line).0
+needs-needs-requires-clause-hart c = (pass_room c.args.self.now c.requires.0 c.requires.1 c.args.line.now c.requires.2 c.record_hart-hart.result c.record_hart-hart.ensures).hart
 
 pub needs-needs-requires-clause-few : goal.needs-needs-requires-clause-few
-needs-needs-requires-clause-few c = record_room c.args.log.now.lines c.requires.few c.args.self.now.heads c.args.at c.record_hart-hart.result c.requires.checked.tells c.requires.at (subst (λ (z : ℕ). z < 8) (sym c.record_hart-hart.ensures) (line_room c.args.log.now.harts c.args.log.now.lines c.requires.log.flow c.requires.log.few c.requires.few c.args.self.now.heads c.args.at c.args.line.now c.requires.checked.tells c.requires.line).0)
+needs-needs-requires-clause-few c = (pass_room c.args.self.now c.requires.0 c.requires.1 c.args.line.now c.requires.2 c.record_hart-hart.result c.record_hart-hart.ensures).records
 
 pub next-requires-clause-hart : goal.next-requires-clause-hart
-next-requires-clause-hart c = subst (λ (z : ℕ). z < 8) (sym c.record_hart-hart.ensures) (line_room c.args.log.now.harts c.args.log.now.lines c.requires.log.flow c.requires.log.few c.requires.few c.args.self.now.heads c.args.at c.args.line.now c.requires.checked.tells c.requires.line).0
+next-requires-clause-hart c = (pass_room c.args.self.now c.requires.0 c.requires.1 c.args.line.now c.requires.2 c.record_hart-hart.result c.record_hart-hart.ensures).hart
 
 pub next-requires-clause-few : goal.next-requires-clause-few
-next-requires-clause-few c =
-    let e : length (slots c.args.self.now.clocks c.record_hart-hart.result) ≡ records_before c.record_hart-hart.result c.args.log.now.lines c.args.at = c.requires.checked.clocks.numbers c.record_hart-hart.result (subst (λ (z : ℕ). z < 8) (sym c.record_hart-hart.ensures) (line_room c.args.log.now.harts c.args.log.now.lines c.requires.log.flow c.requires.log.few c.requires.few c.args.self.now.heads c.args.at c.args.line.now c.requires.checked.tells c.requires.line).0) in
-    let most : records_before c.record_hart-hart.result c.args.log.now.lines c.args.at ≤ c.args.at = before_most c.args.log.now.lines c.record_hart-hart.result c.args.at in
-    omega (arith, c.requires.at, c.requires.few)
+next-requires-clause-few c = pass_slots c.args.self.now c.requires.0 c.requires.1 c.args.line.now c.requires.2 c.record_hart-hart.result c.record_hart-hart.ensures
 
-pub settle-requires-clause-clock : goal.settle-requires-clause-clock
-settle-requires-clause-clock c = subst (λ (z : ℕ). IsClock (Into c.args.log.now.lines) z (records_before z c.args.log.now.lines c.args.at + 1) (time c.in_ok-clock.clock)) c.record_hart-hart.ensures
-    (c.in_ok-clock.ensures.ok c.args.log.now.harts c.args.log.now.lines c.args.at c.args.line.now c.requires.log.flow c.requires.log.few c.requires.checked.clocks (line_next c.args.log.now.lines c.args.at c.record_hart-hart.result c.args.line.now c.requires.line c.record_hart-hart.ensures) (c.needs-needs.ensures c.args.log.now.harts c.args.log.now.lines c.args.at c.requires.log.flow c.requires.checked.tells (line_next c.args.log.now.lines c.args.at c.record_hart-hart.result c.args.line.now c.requires.line c.record_hart-hart.ensures))).0
+pub settle-requires : goal.settle-requires
+settle-requires c =
+    let log = c.requires.0 in
+    let at = c.requires.1 in
+    let may = c.requires.2 in
+    let line = c.args.line.now in
+    let h = c.record_hart-hart.result in
+    let next = line_next log.lines at h line may.here c.record_hart-hart.ensures in (
+      log,
+      at,
+      settled c.args.self.now c.next.new.self log at line c.in_ok-clock.clock may h c.record_hart-hart.ensures
+          (c.in_ok-clock.ensures.ok log.harts log.lines at line may.checkable.flow may.checkable.few may.checked.clocks next
+          (c.needs-needs.ensures log.harts log.lines at may.checkable.flow may.checked.tells next)),
+    )
 
-pub settle-requires-clause-number : goal.settle-requires-clause-number
-settle-requires-clause-number c = subst (λ (z : ℕ). time c.in_ok-clock.clock z ≡ records_before z c.args.log.now.lines c.args.at + 1) c.record_hart-hart.ensures
-    (c.in_ok-clock.ensures.ok c.args.log.now.harts c.args.log.now.lines c.args.at c.args.line.now c.requires.log.flow c.requires.log.few c.requires.checked.clocks (line_next c.args.log.now.lines c.args.at c.record_hart-hart.result c.args.line.now c.requires.line c.record_hart-hart.ensures) (c.needs-needs.ensures c.args.log.now.harts c.args.log.now.lines c.args.at c.requires.log.flow c.requires.checked.tells (line_next c.args.log.now.lines c.args.at c.record_hart-hart.result c.args.line.now c.requires.line c.record_hart-hart.ensures))).2
-
-pub settle-requires-clause-clocks : goal.settle-requires-clause-clocks
-settle-requires-clause-clocks c =
-    (c.in_ok-clock.ensures.ok c.args.log.now.harts c.args.log.now.lines c.args.at c.args.line.now c.requires.log.flow c.requires.log.few c.requires.checked.clocks (line_next c.args.log.now.lines c.args.at c.record_hart-hart.result c.args.line.now c.requires.line c.record_hart-hart.ensures) (c.needs-needs.ensures c.args.log.now.harts c.args.log.now.lines c.args.at c.requires.log.flow c.requires.checked.tells (line_next c.args.log.now.lines c.args.at c.record_hart-hart.result c.args.line.now c.requires.line c.record_hart-hart.ensures))).1
+pub returns : goal.returns
+returns c log at may =
+    let line = c.args.line.now in
+    let h = c.record_hart-hart.result in
+    let next = line_next log.lines at h line may.here c.record_hart-hart.ensures in
+    c.settle.ensures log at (settled c.args.self.now c.next.new.self log at line c.in_ok-clock.clock may h c.record_hart-hart.ensures
+    (c.in_ok-clock.ensures.ok log.harts log.lines at line may.checkable.flow may.checkable.few may.checked.clocks next
+    (c.needs-needs.ensures log.harts log.lines at may.checkable.flow may.checked.tells next)))

@@ -4,8 +4,8 @@
 //! earlier one, so an access is clear where its clock knows the last conflicting access of each other hart. A notice is
 //! the last record of its hart until its alert event has come, so whether a hart has the notice of an alert event is
 //! seen at the event itself; of what came before it is enough to keep which harts have missed an alert event, and which
-//! have had an access. Of each line a trace keeps four bytes, and no line is kept. Only where something is not clear
-//! the trace is passed again, for the earliest partner. So a log is checked while it is read.
+//! have had an access. Of each line a trace keeps four bytes, and no line is kept, so a log can be checked while it is
+//! read. Only where something is not clear the trace is passed again, for the earliest partner.
 #![tactic(auto)]
 
 mod alerts;

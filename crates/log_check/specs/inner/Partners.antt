@@ -48,7 +48,8 @@ pub record IsEarlier (lines : List Line) (x at hart n : ℕ) (part : Part) (a b 
   pub kind : IsPart lines a n part
 
 -- the event that follows the lines of a trace, with its clock, and the heads before it
-pub record IsSought (trace : List Outline) (now : Heads) (harts : ℕ) (lines : List Line) (b : Event) (m : ℕ) (times : ℕ → ℕ) : Type 0 where
+pub record IsSought (trace : List Outline) (now : Heads) (harts : ℕ) (lines : List Line) (b : Event) (m : ℕ)
+    (times : ℕ → ℕ) : Type 0 where
   pub later : IsLater harts lines (length trace) b m times
   pub tells : Tells now lines (length trace)
   pub traced : IsTraced trace lines (length trace)

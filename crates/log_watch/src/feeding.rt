@@ -10,7 +10,7 @@ use std::mem;
 use turn_worker::TurnWorker;
 
 /// How many records a worker is fed at a time.
-const PIECE_RECORDS: usize = 1024;
+const PIECE_RECORDS: usize = 64;
 
 /// A worker, and the next records of its stream, which it is fed once they are a whole piece.
 #[derive(Drop)]
@@ -38,7 +38,8 @@ impl<W: TurnWorker> Feeding<W> {
             IsFedBy start (W.view self.old.worker) self.old.piece.items told →
             OnOk result (IsFedBy start (W.view self.new.worker) [] told) }
     {
-        let piece = mem::replace(&mut self.piece, Vec::new(alloc));
+        let next = Vec::with_capacity(alloc, PIECE_RECORDS)?;
+        let piece = mem::replace(&mut self.piece, next);
         if self.worker.feed(piece).is_err() {
             return Err(NoMemory);
         }

@@ -1,17 +1,20 @@
 -- A log that grows: what was checked of its first lines, and the pair that was named there.
-use Rattle.std.proofs.Common.{◌≡◌, ℕ, ◌+◌, ◌<◌, ◌≤◌, Bool, true, false, ◌++◌, List, length, sym, subst, inl, inr, arith, lt_of_not-le}
+use Rattle.std.proofs.Common.{◌≡◌, ℕ, ◌+◌, ◌<◌, ◌≤◌, Bool, true, false, ◌++◌, List, length, refl, sym, ◌∙◌, subst, inl, inr, arith, lt_of_not-le}
 use Rattle.std.specs.Bool.{MatchBool}
+use Rattle.std.proofs.lemmas.Option.{slice_get_within}
 use mathlib.Core.Logic.{dite}
 use native.Mathlib.Decide.{dec_le}
 use Rattle.pl_event.specs.declared.event.Event.{Event}
 use Rattle.pl_event.specs.declared.log.Line.{Line}
 use Rattle.pl_event.specs.declared.log.Log.{Log}
 use Rattle.pl_event.specs.declared.log.Point.{Point}
+use Rattle.pl_event.specs.declared.log.Record.{Record}
+use Rattle.pl_event.specs.declared.log.Record.TheVariants as entry
 use Rattle.pl_event.specs.Alerts.{is_alert_kind}
 use Rattle.pl_event.specs.Conflicts.{AreOrdered, HasNotice, IsNoticed, IsPair}
 use Rattle.pl_event.specs.Edges.{IsFlow, IsNotice}
 use Rattle.pl_event.specs.Heads.{Tells}
-use Rattle.pl_event.specs.Records.{records_before, IsEvent}
+use Rattle.pl_event.specs.Records.{records_before, IsEvent, IsRecord}
 use Rattle.pl_event.specs.Unordered.{IsUnordered, IsOrderedPair}
 use Rattle.pl_event.proofs.Growth.{record_back, path_on, path_back}
 use Rattle.pl_event.proofs.Places.{inside, before_up, before_own}
@@ -22,7 +25,12 @@ use Rattle.log_check.specs.declared.alerts.AlertWatch.{AlertWatch}
 use Rattle.log_check.specs.declared.order_check.OrderCheck.{OrderCheck}
 use Rattle.log_check.specs.Answers.{NamesFirst}
 use Rattle.log_check.specs.Checked.{GrowsTo, IsChecked}
+use Rattle.log_check.specs.declared.trace.Outline.{Outline}
+use Rattle.log_check.specs.declared.trace.Part.{Part}
+use Rattle.log_check.specs.declared.trace.Part.TheVariants as parts
+use Rattle.log_check.specs.inner.Traced.{IsOutline, IsPart, IsTraced}
 use Rattle.log_check.specs.inner.Watched.{IsWatched}
+use Rattle.log_check.proofs.Positions.{event_of_line}
 
 module _ (harts : ℕ) (g e : List Line) (flow : IsFlow harts (g ++ e)) where
   -- an event's number is one of the first lines
@@ -86,6 +94,29 @@ module _ (harts : ℕ) (g e : List Line) (flow : IsFlow harts (g ++ e)) where
     alerts = λ i j a n b m low pair meet. noticed_on a n b m (o.alerts i j a n b m low (pair_back i j a n b m (omega arith) pair) meet);
   }
 
+  part_on : (x n : ℕ) (a : Event) (part : Part) → IsEvent g x n a → IsPart g a n part → IsPart (g ++ e) a n part
+  part_on x n a parts.Other is p = p
+  part_on x n a (parts.Load addr) is p = p
+  part_on x n a (parts.Store addr) is p = p
+  part_on x n a (parts.Alert set) is p = (p.0, λ u low. ((λ one. told_on u a.hart n ((p.1 u low).0 one)), (λ t. (p.1 u low).1 (told_back u x n a is t))))
+
+  outline_on : (x h n : ℕ) (line : Line) (outline : Outline) → IsRecord g x h n line → IsOutline g n line.what outline → IsOutline (g ++ e) n line.what outline
+  outline_on x h n line outline is = by line.what refl
+    where
+      by : (what : Record) → line.what ≡ what → IsOutline g n what outline → IsOutline (g ++ e) n what outline
+      by (entry.Event event) what o = (o.0, part_on x n event outline.part (event_of_line g x n h line event is what) o.1)
+      by (entry.Notice hart point) what o = o
+
+  traced_on : (trace : List Outline) → IsTraced trace g (length g) → IsTraced trace (g ++ e) (length g)
+  traced_on trace traced = record {
+    count = traced.count;
+    each = λ x h n line outline is at.
+        let within : x < length trace = slice_get_within trace x outline at in
+        let low : x < length g = (let c : length trace ≡ length g = traced.count in omega arith) in
+        let back : IsRecord g x h n line = record_back g e x h n line low is in
+        outline_on x h n line outline back (traced.each x h n line outline back at);
+  }
+
   watched_on : (w : AlertWatch) → IsWatched w g (length g) → IsWatched w (g ++ e) (length g)
   watched_on w watched = record {
     missed = λ h j n a low clear before is alert apart. told_on h a.hart n (watched.missed h j n a low clear before (event_back g e j n a before is) alert apart);
@@ -102,6 +133,8 @@ checked_on check old new grows is =
     let e = grows.more in
     let f = flow_here old new grows in
     record {
+      size = is.size ∙ sym grows.block;
+      traced = subst (λ (z : List Line). IsTraced check.trace z (length g)) (sym grows.lines) (traced_on new.harts g e f check.trace is.traced);
       tells = subst (λ (z : List Line). Tells check.heads z (length g)) (sym grows.lines) (tells_on g e check.heads is.tells);
       clocks = subst (λ (z : List Line). HasClocks check.clocks z (length g)) (sym grows.lines) (clocks_on new.harts g e f check.clocks is.clocks);
       lasts = subst (λ (z : ℕ × List Line). HasLast check.lasts z.0 z.1 (length g)) (λ d. (sym grows.block d, sym grows.lines d)) (lasts_on g e check.lasts old.block is.lasts);

@@ -1,2 +1,5 @@
 pub mod Watched
 pub mod Partners
+pub mod Traces
+pub mod Traced
+pub mod Settled

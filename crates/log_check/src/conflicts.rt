@@ -1,8 +1,12 @@
 //! Whether two events conflict, and by what.
-ghost use Rattle.std.specs.Prelude.{◌≡◌, ◌↔◌, ◌<◌, IsTrue, None, Some, MatchOption};
+ghost use Rattle.std.specs.Prelude.{◌≡◌, ◌↔◌, ℕ, ◌<◌, List, IsTrue, None, Some, MatchOption};
+ghost use Rattle.pl_event.specs.declared.event.Event.{Event};
+ghost use Rattle.pl_event.specs.declared.log.Line.{Line};
 ghost use Rattle.pl_event.specs.Conflicts.{access_of, ShareBlock, MeetByAlert};
+ghost use Rattle.log_check.specs.inner.Traced.{IsPart};
 
 use crate::alerts::is_access;
+use crate::trace::Part;
 use pl_event::{Kind, is_alert};
 
 /// A block, and whether it is written.
@@ -42,12 +46,34 @@ fn block_of(size: u8, kind: &Kind) -> Option<Touched>
     }
 }
 
-/// Whether both are accesses to one block, and one is a store.
-pub(crate) fn share_block(size: u8, a: &Kind, b: &Kind) -> bool
+// The same, where only a part of the event is known.
+fn block_in(size: u8, part: Part) -> Option<Touched>
     requires { 0 < size }
-    ensures { IsTrue result ↔ ShareBlock (access_of size a.now) (access_of size b.now) }
+    ensures { (lines : List Line) (a : Event) (n : ℕ) → IsPart lines a n part →
+        MatchOption result (access_of size a.kind ≡ None) (λ touched.
+        access_of size a.kind ≡ Some (record { block = touched.block; store = touched.is_store })) }
 {
-    match block_of(size, a) {
+    let size = u32::from(size);
+    match part {
+        Part::Load(addr) => Some(Touched {
+            block: addr / size,
+            is_store: false,
+        }),
+        Part::Store(addr) => Some(Touched {
+            block: addr / size,
+            is_store: true,
+        }),
+        Part::Other | Part::Alert(_) => None,
+    }
+}
+
+/// Whether both are accesses to one block, and one is a store. Of the first event this is its part.
+pub(crate) fn share_block(size: u8, a: Part, b: &Kind) -> bool
+    requires { 0 < size }
+    ensures { (lines : List Line) (event : Event) (n : ℕ) → IsPart lines event n a →
+        IsTrue result ↔ ShareBlock (access_of size event.kind) (access_of size b.now) }
+{
+    match block_in(size, a) {
         Some(a) => match block_of(size, b) {
             Some(b) => a.block == b.block && (a.is_store || b.is_store),
             None => false,
@@ -56,9 +82,14 @@ pub(crate) fn share_block(size: u8, a: &Kind, b: &Kind) -> bool
     }
 }
 
-/// Whether one is an alert event, and the other a load, a store or an alert event.
-pub(crate) fn meet_by_alert(a: &Kind, b: &Kind) -> bool
-    ensures { IsTrue result ↔ MeetByAlert a.now b.now }
+/// Whether one is an alert event, and the other a load, a store or an alert event. Of the first event this is its part.
+pub(crate) fn meet_by_alert(a: Part, b: &Kind) -> bool
+    ensures { (lines : List Line) (event : Event) (n : ℕ) → IsPart lines event n a →
+        IsTrue result ↔ MeetByAlert event.kind b.now }
 {
-    is_alert(a) && (is_access(b) || is_alert(b)) || is_access(a) && is_alert(b)
+    match a {
+        Part::Other => false,
+        Part::Load(_) | Part::Store(_) => is_alert(b),
+        Part::Alert(_) => is_access(b) || is_alert(b),
+    }
 }

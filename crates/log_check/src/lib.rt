@@ -4,7 +4,8 @@
 //! earlier one, so an access is clear where its clock knows the last conflicting access of each other hart. A notice is
 //! the last record of its hart until its alert event has come, so whether a hart has the notice of an alert event is
 //! seen at the event itself; of what came before it is enough to keep which harts have missed an alert event, and which
-//! have had an access. Only where something is not clear the lines are passed again, for the earliest partner.
+//! have had an access. Of each line a trace keeps four bytes, and no line is kept. Only where something is not clear
+//! the trace is passed again, for the earliest partner. So a log is checked while it is read.
 #![tactic(auto)]
 
 mod alerts;
@@ -15,6 +16,7 @@ mod ordered;
 mod partner;
 #[cfg(test)]
 mod tests;
+mod trace;
 
 pub use growth::grown_checks;
 pub use order_check::{OrderCheck, UnorderedPair};

@@ -1,24 +1,18 @@
 //! The check of a log, line by line.
-ghost use Rattle.std.specs.Prelude.{◌≡◌, ℕ, ◌+◌, ◌^◌, ◌<◌, ◌≤◌, length, IfOk, MatchOption, Some, slice_get};
+ghost use Rattle.std.specs.Prelude.{◌≡◌, ℕ, ◌+◌, IfOk, MatchOption};
+ghost use Rattle.pl_event.specs.declared.log.Line.{Line};
 ghost use Rattle.pl_event.specs.declared.log.Log.{Log};
-ghost use Rattle.pl_event.specs.Conflicts.{AreOrdered};
-ghost use Rattle.pl_event.specs.Edges.{Into, no_arcs};
-ghost use Rattle.pl_event.specs.Graph.{IsClock};
-ghost use Rattle.pl_event.specs.Heads.{Tells, IsNext};
-ghost use Rattle.pl_event.specs.Numbers.{hart_of};
-ghost use Rattle.pl_event.specs.Records.{records_before, IsEvent};
+ghost use Rattle.pl_event.specs.declared.log.Record.TheVariants as entry;
+ghost use Rattle.pl_event.specs.Edges.{no_arcs};
 ghost use Rattle.pl_event.specs.Runs.{IsBlockSize};
-ghost use Rattle.pl_event.specs.Valid.{IsValidEvent};
-ghost use Rattle.log_clocks.specs.Clocks.{HasClocks, time};
-ghost use Rattle.log_clocks.specs.LastAccesses.{HasLast};
 ghost use Rattle.log_check.specs.inner.Partners.{FindsPartner};
-ghost use Rattle.log_check.specs.inner.Watched.{IsWatched};
 
 use crate::alerts::AlertWatch;
 use crate::partner::Later;
+use crate::trace::{Trace, outline_of};
 use log_clocks::{Clock, Clocks, LastAccesses};
 use pl_base::NoMemory;
-use pl_event::{Arcs, Event, Heads, Line, Log, Point, Record, record_hart};
+use pl_event::{Arcs, Event, Heads, Line, Point, Record, record_hart};
 use std::alloc::Global;
 
 /// Two events that conflict and are not ordered.
@@ -28,18 +22,23 @@ pub struct UnorderedPair {
     pub later: Point,
 }
 
-/// A check of a log whose first lines are taken.
+/// A check of a log whose first lines are taken. It keeps no line, but four bytes of each.
+///
+/// Each clause speaks of every log whose lines so far these are, so a log can be checked while it is read.
 #[derive(Drop)]
 pub struct OrderCheck {
+    block: u8,
     heads: Heads,
     clocks: Clocks,
     lasts: LastAccesses,
     alerts: AlertWatch,
+    trace: Trace,
 }
 
 impl OrderCheck {
     ghost use Rattle.log_check.specs.Answers.{NamesFirst};
-    ghost use Rattle.log_check.specs.Checked.{IsCheckable, IsChecked};
+    ghost use Rattle.log_check.specs.Checked.{IsCheckable, IsChecked, MayPass};
+    ghost use Rattle.log_check.specs.inner.Settled.{MaySettle};
 
     /// No line is taken. A block has 16 or 4 bytes.
     pub fn new(alloc: Global, block: u8) -> Result<OrderCheck, NoMemory>
@@ -47,34 +46,30 @@ impl OrderCheck {
         ensures { IfOk result (λ check. (log : Log) → IsCheckable log → log.block ≡ block → IsChecked check log 0) }
     {
         Ok(OrderCheck {
+            block,
             heads: Heads::new(),
             clocks: Clocks::new(alloc)?,
             lasts: LastAccesses::new(alloc, block)?,
             alerts: AlertWatch::new(),
+            trace: Trace::new(alloc),
         })
     }
 
-    // The earliest event that conflicts with the one at a position and is not ordered before it.
+    // The earliest event that conflicts with the next one and is not ordered before it.
     #[inline(always)]
-    fn partner(&self, log: &Log, at: usize, event: &Event, clock: &Clock) -> Option<Point>
-        requires at { at < length log.now.lines }
-        requires few { length log.now.lines < 2 ^ 32 }
-        requires log { IsCheckable log.now }
-        requires valid { IsValidEvent event.now 8 }
-        requires event { (m : ℕ) × IsEvent log.now.lines at m event.now
-            × IsClock (Into log.now.lines) event.now.hart m (time clock.now) }
-        requires heads { Tells self.now.heads log.now.lines at }
-        requires lasts { HasLast self.now.lasts log.now.block log.now.lines at }
-        requires alerts { IsWatched self.now.alerts log.now.lines at }
-        ensures { FindsPartner log.now.block log.now.lines at result }
+    fn partner(&self, event: &Event, clock: &Clock) -> Option<Point>
+        requires { (log : Log) × (at : ℕ) × (line : Line) × MaySettle self.now log at line clock.now
+            × (line.what ≡ entry.Event event.now) }
+        ensures { (log : Log) (at : ℕ) (line : Line) → MaySettle self.now log at line clock.now →
+            line.what ≡ entry.Event event.now → FindsPartner log.block log.lines at result }
     {
         if !self.lasts.are_known(event, clock) || self.alerts.suspects(&self.heads, event) {
             let later = Later {
-                size: log.block,
+                size: self.block,
                 event: *event,
                 clock: *clock,
             };
-            later.earliest_partner(log, at, &self.heads)
+            later.earliest_partner(&self.trace, &self.heads)
         } else {
             None
         }
@@ -82,132 +77,69 @@ impl OrderCheck {
 
     // The same, where the line is an event.
     #[inline(always)]
-    fn earlier(&self, log: &Log, at: usize, line: &Line, clock: &Clock) -> Option<Point>
-        requires at { at < length log.now.lines }
-        requires few { length log.now.lines < 2 ^ 32 }
-        requires log { IsCheckable log.now }
-        requires line { IsNext log.now.lines at (hart_of line.now.what) line.now }
-        requires clock { let h = hart_of line.now.what in let g = log.now.lines in
-            IsClock (Into g) h (records_before h g at + 1) (time clock.now) }
-        requires heads { Tells self.now.heads log.now.lines at }
-        requires lasts { HasLast self.now.lasts log.now.block log.now.lines at }
-        requires alerts { IsWatched self.now.alerts log.now.lines at }
-        ensures { FindsPartner log.now.block log.now.lines at result }
+    fn earlier(&self, line: &Line, clock: &Clock) -> Option<Point>
+        requires { (log : Log) × (at : ℕ) × MaySettle self.now log at line.now clock.now }
+        ensures { (log : Log) (at : ℕ) → MaySettle self.now log at line.now clock.now →
+            FindsPartner log.block log.lines at result }
     {
         match line.what {
-            Record::Event(event) => self.partner(log, at, &event, clock),
+            Record::Event(event) => self.partner(&event, clock),
             Record::Notice { hart: _, of: _ } => None,
         }
     }
 
     // Takes the next line, whose clock is this one and known to the clocks.
     #[inline(always)]
-    fn settle(
-        &mut self,
-        log: &Log,
-        at: usize,
-        line: &Line,
-        clock: &Clock,
-    ) -> Result<Option<UnorderedPair>, NoMemory>
-        requires at { at < length log.now.lines }
-        requires few { length log.now.lines < 2 ^ 32 }
-        requires log { IsCheckable log.now }
-        requires line { slice_get log.now.lines at ≡ Some line.now }
-        requires clock { let h = hart_of line.now.what in let g = log.now.lines in
-            IsClock (Into g) h (records_before h g at + 1) (time clock.now) }
-        requires number { let h = hart_of line.now.what in
-            time clock.now h ≡ records_before h log.now.lines at + 1 }
-        requires heads { Tells self.old.heads log.now.lines at }
-        requires clocks { HasClocks self.old.clocks log.now.lines (at + 1) }
-        requires lasts { HasLast self.old.lasts log.now.block log.now.lines at }
-        requires alerts { IsWatched self.old.alerts log.now.lines at }
-        requires ordered { AreOrdered log.now.block log.now.lines at }
-        ensures { IfOk result (λ found. MatchOption found
-            (IsChecked self.new log.now (at + 1))
-            (λ pair. NamesFirst log.now pair.earlier pair.later)) }
+    fn settle(&mut self, line: &Line, clock: &Clock) -> Result<Option<UnorderedPair>, NoMemory>
+        requires { (log : Log) × (at : ℕ) × MaySettle self.old log at line.now clock.now }
+        ensures { (log : Log) (at : ℕ) → MaySettle self.old log at line.now clock.now →
+            IfOk result (λ found. MatchOption found (IsChecked self.new log (at + 1))
+            (λ pair. NamesFirst log pair.earlier pair.later)) }
     {
         let hart = record_hart(&line.what);
         let number = clock.get(hart);
-        if let Some(earlier) = self.earlier(log, at, line, clock) {
+        if let Some(earlier) = self.earlier(line, clock) {
             let later = Point { hart, number };
             return Ok(Some(UnorderedPair { earlier, later }));
         }
         self.lasts.pass(line, number)?;
+        self.trace.push(outline_of(&self.heads, line))?;
         self.alerts.pass(&self.heads, line);
         self.heads.pass(line);
         Ok(None)
     }
 
-    /// Takes the next line, which is at this position of the log, and names the earliest event that conflicts with it
-    /// and is not ordered before it; then they are the first pair that is not ordered. After that, and without memory,
-    /// nothing is said of the check any more.
+    /// Takes the next line of a log, and names the earliest event that conflicts with it and is not ordered before it;
+    /// then they are the first pair that is not ordered. After that, and without memory, nothing is said of the check
+    /// any more.
     #[inline(never)]
-    pub fn pass(
-        &mut self,
-        log: &Log,
-        at: usize,
-        line: &Line,
-    ) -> Result<Option<UnorderedPair>, NoMemory>
-        requires at { at < length log.now.lines }
-        requires few { length log.now.lines < 2 ^ 32 }
-        requires log { IsCheckable log.now }
-        requires line { slice_get log.now.lines at ≡ Some line.now }
-        requires checked { IsChecked self.old log.now at }
-        ensures { IfOk result (λ found. MatchOption found
-            (IsChecked self.new log.now (at + 1))
-            (λ pair. NamesFirst log.now pair.earlier pair.later)) }
+    pub fn pass(&mut self, line: &Line) -> Result<Option<UnorderedPair>, NoMemory>
+        requires { (log : Log) × (at : ℕ) × MayPass self.old log at line.now }
+        ensures { (log : Log) (at : ℕ) → MayPass self.old log at line.now →
+            IfOk result (λ found. MatchOption found (IsChecked self.new log (at + 1))
+            (λ pair. NamesFirst log pair.earlier pair.later)) }
     {
         let hart = record_hart(&line.what);
         let needs = self.heads.needs(line, hart);
         let clock = self.clocks.next(hart, &needs)?;
-        self.settle(log, at, line, &clock)
+        self.settle(line, &clock)
     }
 
     /// The same, of a line without arcs, which is mostly taken without a look at the other harts.
     #[inline(always)]
-    pub(crate) fn pass_bare(
-        &mut self,
-        log: &Log,
-        at: usize,
-        what: Record,
-    ) -> Result<Option<UnorderedPair>, NoMemory>
-        requires at { at < length log.now.lines }
-        requires few { length log.now.lines < 2 ^ 32 }
-        requires log { IsCheckable log.now }
-        requires line { slice_get log.now.lines at ≡ Some (record { what = what; arcs = no_arcs }) }
-        requires checked { IsChecked self.old log.now at }
-        ensures { IfOk result (λ found. MatchOption found
-            (IsChecked self.new log.now (at + 1))
-            (λ pair. NamesFirst log.now pair.earlier pair.later)) }
+    pub fn pass_bare(&mut self, what: Record) -> Result<Option<UnorderedPair>, NoMemory>
+        requires { (log : Log) × (at : ℕ) × MayPass self.old log at (record { what = what; arcs = no_arcs }) }
+        ensures { (log : Log) (at : ℕ) → MayPass self.old log at (record { what = what; arcs = no_arcs }) →
+            IfOk result (λ found. MatchOption found (IsChecked self.new log (at + 1))
+            (λ pair. NamesFirst log pair.earlier pair.later)) }
     {
         let arcs = Arcs::none();
         let line = Line { what, arcs };
         let hart = record_hart(&line.what);
         if !self.heads.is_unnoticed(hart) {
-            return self.pass(log, at, &line);
+            return self.pass(&line);
         }
         let clock = self.clocks.next_alone(hart)?;
-        self.settle(log, at, &line, &clock)
-    }
-
-    /// Takes the line at this position of the log, as `pass`.
-    #[inline(always)]
-    pub(crate) fn pass_at(
-        &mut self,
-        log: &Log,
-        at: usize,
-    ) -> Result<Option<UnorderedPair>, NoMemory>
-        requires at { at < length log.now.lines }
-        requires few { length log.now.lines < 2 ^ 32 }
-        requires log { IsCheckable log.now }
-        requires checked { IsChecked self.old log.now at }
-        ensures { IfOk result (λ found. MatchOption found
-            (IsChecked self.new log.now (at + 1))
-            (λ pair. NamesFirst log.now pair.earlier pair.later)) }
-    {
-        match log.lines.bare(at) {
-            Some(what) => self.pass_bare(log, at, what),
-            None => self.pass(log, at, &log.lines.get(at)),
-        }
+        self.settle(&line, &clock)
     }
 }

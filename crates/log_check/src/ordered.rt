@@ -1,8 +1,9 @@
 //! Logs that are ordered.
-ghost use Rattle.std.specs.Prelude.{◌≡◌, ◌^◌, ◌<◌, length, IfOk, IfErr, MatchOption};
+ghost use Rattle.std.specs.Prelude.{◌≡◌, ◌+◌, ◌^◌, ◌<◌, length, IfOk, IfErr, MatchOption};
 ghost use Rattle.pl_event.specs.Conflicts.{IsOrdered};
 ghost use Rattle.pl_event.specs.Runs.{IsRunLog};
 ghost use Rattle.log_check.specs.Answers.{IsRefused, NamesFirst};
+ghost use Rattle.log_check.specs.Checked.{IsCheckable, IsChecked};
 
 use crate::order_check::{OrderCheck, UnorderedPair};
 use pl_base::NoMemory;
@@ -39,6 +40,23 @@ pub enum CheckRefused {
     },
 }
 
+// Takes the line at a position of a log.
+#[inline(always)]
+fn pass_at(check: &mut OrderCheck, log: &Log, at: usize) -> Result<Option<UnorderedPair>, NoMemory>
+    requires at { at < length log.now.lines }
+    requires few { length log.now.lines < 2 ^ 32 }
+    requires log { IsCheckable log.now }
+    requires checked { IsChecked check.old log.now at }
+    ensures { IfOk result (λ found. MatchOption found
+        (IsChecked check.new log.now (at + 1))
+        (λ pair. NamesFirst log.now pair.earlier pair.later)) }
+{
+    match log.lines.bare(at) {
+        Some(what) => check.pass_bare(what),
+        None => check.pass(&log.lines.get(at)),
+    }
+}
+
 // The first pair of a log that is not ordered.
 #[inline(never)]
 fn first_unordered(alloc: Global, log: &Log) -> Result<Option<UnorderedPair>, NoMemory>
@@ -50,7 +68,7 @@ fn first_unordered(alloc: Global, log: &Log) -> Result<Option<UnorderedPair>, No
 {
     let mut check = OrderCheck::new(alloc, log.block)?;
     for at in 0..log.lines.len() {
-        let found = check.pass_at(log, at)?;
+        let found = pass_at(&mut check, log, at)?;
         if found.is_some() {
             return Ok(found);
         }

@@ -64,11 +64,21 @@ pub event_hart : (g : List Line) (i n : ℕ) (b : Event) (l : Line) → IsEvent 
 event_hart g i n b l is e = sym is.1.hart ∙ ap (λ (z : Line). hart_of z.what) (some-injective is.0 l (sym is.1.at ∙ got g i l e))
 
 -- the number of the line that is counted
-pub number_now : (g : List Line) (x r : ℕ) (l : Line) → r ≡ hart_of l.what → (numbers : List ℕ) → length numbers ≡ 8 → r < 8
+pub number_now : (g : List Line) (x r : ℕ) (numbers : List ℕ) → length numbers ≡ 8 → r < 8
     → ((h : ℕ) → h < 8 → slice_index numbers h ≡ records_before h g x)
-    → slice_index (set numbers r (slice_index numbers r + 1)) r ≡ records_before (hart_of l.what) g x + 1
-number_now g x r l own numbers long low each =
-    get_or-set_same numbers r (slice_index numbers r + 1) 0 (omega arith) ∙ (ap (λ (z : ℕ). z + 1) (each r low) ∙ ap (λ (z : ℕ). records_before z g x + 1) own)
+    → slice_index (set numbers r (slice_index numbers r + 1)) r ≡ records_before r g x + 1
+number_now g x r numbers long low each =
+    get_or-set_same numbers r (slice_index numbers r + 1) 0 (omega arith) ∙ ap (λ (z : ℕ). z + 1) (each r low)
+
+-- of x lines no hart has more than x
+pub most_now : (x r : ℕ) (numbers : List ℕ) → length numbers ≡ 8 → r < 8 → ((h : ℕ) → h < 8 → slice_index numbers h ≤ x)
+    → (h : ℕ) → h < 8 → slice_index (set numbers r (slice_index numbers r + 1)) h ≤ x + 1
+most_now x r numbers long low most h lh = dite (ℕ_discrete h r)
+    (λ e. subst (λ (z : ℕ). slice_index (set numbers r (slice_index numbers r + 1)) z ≤ x + 1) (sym e)
+    (let s : slice_index (set numbers r (slice_index numbers r + 1)) r ≡ slice_index numbers r + 1 = get_or-set_same numbers r (slice_index numbers r + 1) 0 (omega arith) in
+    let l : slice_index numbers r ≤ x = most r low in omega arith))
+    (λ ne. let s : slice_index (set numbers r (slice_index numbers r + 1)) h ≡ slice_index numbers h = get_or-set_other numbers r h (slice_index numbers r + 1) 0 ne in
+    let l : slice_index numbers h ≤ x = most h lh in omega arith)
 
 -- a line of a log of at most eight harts is sound among eight
 pub sound_line : (harts : ℕ) (g : List Line) → harts ≤ 8 → All (IsSoundLine harts) g → (i : ℕ) (l : Line) → get_elem? g i ≡ some l → IsSoundLine 8 l

@@ -3,3 +3,4 @@ pub mod Partners
 pub mod Traces
 pub mod Traced
 pub mod Settled
+pub mod Touches

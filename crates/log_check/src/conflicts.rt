@@ -1,8 +1,9 @@
 //! Whether two events conflict, and by what.
-ghost use Rattle.std.specs.Prelude.{◌≡◌, ◌↔◌, ℕ, ◌<◌, List, IsTrue, None, Some, MatchOption};
+ghost use Rattle.std.specs.Prelude.{◌≡◌, ◌↔◌, ℕ, ◌<◌, List, IsTrue};
 ghost use Rattle.pl_event.specs.declared.event.Event.{Event};
 ghost use Rattle.pl_event.specs.declared.log.Line.{Line};
 ghost use Rattle.pl_event.specs.Conflicts.{access_of, ShareBlock, MeetByAlert};
+ghost use Rattle.log_check.specs.inner.Touches.{access_in};
 ghost use Rattle.log_check.specs.inner.Traced.{IsPart};
 
 use crate::alerts::is_access;
@@ -19,8 +20,7 @@ pub(crate) struct Touched {
 // What a load or a store touches.
 fn block_of(size: u8, kind: &Kind) -> Option<Touched>
     requires { 0 < size }
-    ensures { MatchOption result (access_of size kind.now ≡ None) (λ touched.
-        access_of size kind.now ≡ Some (record { block = touched.block; store = touched.is_store })) }
+    ensures { access_in result ≡ access_of size kind.now }
 {
     let size = u32::from(size);
     match *kind {
@@ -49,9 +49,8 @@ fn block_of(size: u8, kind: &Kind) -> Option<Touched>
 // The same, where only a part of the event is known.
 fn block_in(size: u8, part: Part) -> Option<Touched>
     requires { 0 < size }
-    ensures { (lines : List Line) (a : Event) (n : ℕ) → IsPart lines a n part →
-        MatchOption result (access_of size a.kind ≡ None) (λ touched.
-        access_of size a.kind ≡ Some (record { block = touched.block; store = touched.is_store })) }
+    ensures { (lines : List Line) (event : Event) (n : ℕ) → IsPart lines event n part →
+        access_in result ≡ access_of size event.kind }
 {
     let size = u32::from(size);
     match part {
@@ -67,14 +66,12 @@ fn block_in(size: u8, part: Part) -> Option<Touched>
     }
 }
 
-/// Whether both are accesses to one block, and one is a store. Of the first event this is its part.
-pub(crate) fn share_block(size: u8, a: Part, b: &Kind) -> bool
-    requires { 0 < size }
-    ensures { (lines : List Line) (event : Event) (n : ℕ) → IsPart lines event n a →
-        IsTrue result ↔ ShareBlock (access_of size event.kind) (access_of size b.now) }
+// Whether both touch one block, and one writes it.
+fn is_shared(a: Option<Touched>, b: Option<Touched>) -> bool
+    ensures { IsTrue result ↔ ShareBlock (access_in a) (access_in b) }
 {
-    match block_in(size, a) {
-        Some(a) => match block_of(size, b) {
+    match a {
+        Some(a) => match b {
             Some(b) => a.block == b.block && (a.is_store || b.is_store),
             None => false,
         },
@@ -82,7 +79,17 @@ pub(crate) fn share_block(size: u8, a: Part, b: &Kind) -> bool
     }
 }
 
-/// Whether one is an alert event, and the other a load, a store or an alert event. Of the first event this is its part.
+/// Whether an event with this part and one of this kind are accesses to one block, and one is a store.
+pub(crate) fn share_block(size: u8, a: Part, b: &Kind) -> bool
+    requires { 0 < size }
+    ensures { (lines : List Line) (event : Event) (n : ℕ) → IsPart lines event n a →
+        IsTrue result ↔ ShareBlock (access_of size event.kind) (access_of size b.now) }
+{
+    is_shared(block_in(size, a), block_of(size, b))
+}
+
+/// Whether of an event with this part and one of this kind one is an alert event, and the other a load, a store or an
+/// alert event.
 pub(crate) fn meet_by_alert(a: Part, b: &Kind) -> bool
     ensures { (lines : List Line) (event : Event) (n : ℕ) → IsPart lines event n a →
         IsTrue result ↔ MeetByAlert event.kind b.now }

@@ -104,8 +104,8 @@ impl Later {
     {
         match outline.part {
             Part::Other => false,
-            part => outline.hart != self.event.hart
-                && self.is_unordered(outline.hart, part, number, now),
+            _ => outline.hart != self.event.hart
+                && self.is_unordered(outline.hart, outline.part, number, now),
         }
     }
 

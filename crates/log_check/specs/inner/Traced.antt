@@ -1,5 +1,5 @@
 -- What a trace tells of the first lines of a log.
-use Rattle.std.specs.Prelude.{◌≡◌, ◌↔◌, ℕ, ◌<◌, Bool, true, false, List, length, Some, slice_get}
+use Rattle.std.specs.Prelude.{◌≡◌, ◌↔◌, ℕ, ◌<◌, true, false, List, length, Some, slice_get}
 use Rattle.std.specs.Int.{bit_at}
 use Rattle.pl_base.specs.declared.widths.LoadWidth.{LoadWidth}
 use Rattle.pl_base.specs.declared.widths.StoreWidth.{StoreWidth}

@@ -1,11 +1,8 @@
-use Rattle.std.proofs.Common.{◌≡◌, ◌↔◌, ℕ, ◌+◌, ◌<◌, ◌≤◌, List, true, false, sym, ap, ◌∙◌, subst, arith}
+use Rattle.std.proofs.Common.{◌≡◌, ℕ, ◌+◌, ◌<◌, ◌≤◌, true, false, sym, ap, ◌∙◌, subst, arith}
 use mathlib.Core.Logic.{dite}
 use native.Mathlib.Decide.{ℕ_discrete}
 use Rattle.std.specs.Int.{bit_at}
-use Rattle.pl_event.specs.declared.log.Line.{Line}
 use Rattle.pl_event.specs.Conflicts.{HasNotice}
-use Rattle.pl_event.specs.Edges.{IsFlow}
-use Rattle.pl_event.specs.Heads.{Tells, IsNext}
 use Rattle.pl_event.specs.Records.{records_before}
 use Rattle.log_check.proofs.trace.noticed_by.Goals.{then-has_notice, else-has_notice}
 use Rattle.log_check.proofs.trace.noticed_by.Goals as goal

@@ -1,5 +1,5 @@
 -- `check`: the order of a log.
-use Rattle.std.specs.Prelude.{◌≡◌, ℕ, ◌≤◌, length, List, [], ◌∷◌, ◌++◌, codes}
+use Rattle.std.specs.Prelude.{◌≡◌, ℕ, ◌≤◌, length, List, [], ◌∷◌, ◌++◌, codes, Option, Some, None}
 use Rattle.pl_base.specs.declared.layout.TheConstants.{MAX_RECORDS}
 use Rattle.pl_event.specs.declared.log.Log.{Log}
 use Rattle.pl_event.specs.Conflicts.{IsOrdered}
@@ -7,6 +7,7 @@ use Rattle.pl_event.specs.Runs.{IsRunLog}
 use Rattle.log_text.specs.Reading.{IsOnly}
 use Rattle.log_text.specs.Spelling.{point_word}
 use Rattle.log_check.specs.Answers.{NamesFirst}
+use Rattle.log_check.specs.declared.order_check.UnorderedPair.{UnorderedPair}
 use Rattle.paralog_top.specs.declared.answer.Verdict.{Verdict}
 use Rattle.paralog_top.specs.declared.checked.Checked.{Checked}
 use Rattle.paralog_top.specs.declared.checked.Checked.TheVariants as checked
@@ -26,9 +27,9 @@ pub record IsCheckedLog (bytes : List ℕ) (found : Checked) : Type 0 where
   pub order : HasChecked log found
 
 -- what the verdict says of what was found
-abbrev pub verdict_on : Checked → Verdict
-verdict_on (checked.Ordered ordered) = Clean
-verdict_on (checked.Unordered earlier later) = Unordered earlier later
+abbrev pub verdict_on : Option UnorderedPair → Verdict
+verdict_on None = Clean
+verdict_on (Some pair) = Unordered pair.earlier pair.later
 
 -- a log is ordered, or has this first pair that is not
 abbrev pub HasOrder : Log → Verdict → Type 0

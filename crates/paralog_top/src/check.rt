@@ -6,10 +6,12 @@ ghost use Rattle.paralog_top.specs.Checks.{IsChecked, order_line, verdict_on};
 ghost use Rattle.paralog_top.specs.Refusals.{IsRefusal, Reads};
 
 use crate::answer::{Answer, Verdict};
-use crate::checked::{Checked, read_checked};
 use crate::refusal::Refusal;
+use log_check::UnorderedPair;
+use pl_base::layout::MAX_LOG_BYTES;
 use pl_base::{NoMemory, Source};
 use pl_event::Point;
+use source_check::check_source;
 use std::alloc::{AllocError, Global};
 
 /// The order of the log that the source has: a line that says that it is ordered, or names the first pair that is not.
@@ -19,31 +21,28 @@ pub fn check<S: Source>(alloc: Global, source: &mut S) -> Result<Answer, Refusal
     ensures err { let input = tells S.left S.faults source.old source.new in
         IfErr result (IsRefusal kinds.Log input) }
 {
-    match read_checked(alloc, source) {
-        Ok(checked) => match order_told(alloc, &checked) {
+    match check_source(alloc, source, MAX_LOG_BYTES) {
+        Ok(found) => match order_told(alloc, found) {
             Ok(answer) => Ok(answer),
             Err(NoMemory) => Err(Refusal::NoMemory),
         },
-        Err(refusal) => Err(refusal),
+        Err(end) => Err(Refusal::of_log(end)),
     }
 }
 
 /// What was found, as an answer.
-fn order_told(alloc: Global, checked: &Checked) -> Result<Answer, NoMemory>
-    ensures verdict { IfOk result (λ answer. answer.verdict ≡ verdict_on checked.now) }
+fn order_told(alloc: Global, found: Option<UnorderedPair>) -> Result<Answer, NoMemory>
+    ensures verdict { IfOk result (λ answer. answer.verdict ≡ verdict_on found) }
     ensures text { IfOk result (λ answer. answer.text.items ≡ order_line answer.verdict) }
 {
-    match checked {
-        Checked::Ordered(_) => Ok(Answer {
+    match found {
+        None => Ok(Answer {
             text: b"ordered\n".to_vec(alloc)?,
             verdict: Verdict::Clean,
         }),
-        Checked::Unordered { earlier, later } => Ok(Answer {
-            text: unordered_line(alloc, *earlier, *later)?,
-            verdict: Verdict::Unordered {
-                earlier: *earlier,
-                later: *later,
-            },
+        Some(UnorderedPair { earlier, later }) => Ok(Answer {
+            text: unordered_line(alloc, earlier, later)?,
+            verdict: Verdict::Unordered { earlier, later },
         }),
     }
 }

@@ -11,5 +11,5 @@ mod written;
 
 pub use laws::{recorded_runs, recording_lines};
 pub use recording::Recording;
-pub use upgrade::upgrade_log;
+pub use upgrade::upgrade_source;
 pub use written::record_job;

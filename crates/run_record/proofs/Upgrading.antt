@@ -1,5 +1,5 @@
 -- A log that is recorded anew, line by line.
-use Rattle.std.proofs.Common.{◌≡◌, ℕ, ◌<◌, ◌≤◌, List, [], ◌∷◌, ◌++◌, append-nil, length, Option, refl, sym, ap, ◌∙◌, subst, arith}
+use Rattle.std.proofs.Common.{◌≡◌, ℕ, List, [], ◌∷◌, ◌++◌, append-nil, Option, refl, sym, ap, ◌∙◌, subst, arith}
 use Rattle.std.specs.Prelude.{string_bytes}
 use Rattle.std.specs.List.{cons_option}
 use Rattle.std.proofs.lemmas.List.Elements.{filter_map-append}
@@ -15,8 +15,9 @@ use Rattle.pl_event.proofs.EventLemmas.{few_events}
 use Rattle.log_grammar.specs.Spelling.{log_spelling}
 use Rattle.log_text.specs.declared.reader.Row.{Row}
 use Rattle.log_text.specs.declared.stream.LogStream.{LogStream}
+use Rattle.log_text.specs.declared.stream.Opening.{Opening}
 use Rattle.log_text.specs.Reading.{IsOnly, line_of, with_line}
-use Rattle.log_text.specs.Streaming.{StreamsRow, WasRead}
+use Rattle.log_text.specs.Streaming.{IsStreamed, StreamsRow, WasRead, begun_log}
 use Rattle.log_text.specs.Writing.{log_of}
 use Rattle.arc_capture.specs.Recorded.{AreRecorded}
 use Rattle.arc_capture.specs.Recorder.{HasRecorded, MayFeed}
@@ -60,6 +61,11 @@ notice_passed log upgrade line hart of is upgraded = record {
       (sym (events_with log.lines line (entry.Notice hart of) is ∙ append-nil (events_of log.lines))) upgraded.has;
   told = upgraded.told;
 }
+
+-- no line was read
+pub begun : (limit : ℕ) (began now : Option (List ℕ)) (opening : Opening) (upgrade : Upgrade) → IsStreamed limit began now opening.stream (begun_log opening) → IsUpgraded (begun_log opening) upgrade
+    → IsUpgrading limit began now opening.stream upgrade
+begun limit began now opening upgrade streamed upgraded = record { log = begun_log opening; streamed = streamed; upgraded = upgraded }
 
 -- the record of a row that was read may be taken
 pub may_take : (limit : ℕ) (began now : Option (List ℕ)) (stream : LogStream) (log : Log) (row : Row) (upgrade : Upgrade) → StreamsRow limit began now stream log row → IsUpgraded log upgrade → MayTake log upgrade row.what

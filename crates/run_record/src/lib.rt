@@ -6,6 +6,8 @@
 
 mod laws;
 mod recording;
+#[cfg(test)]
+mod tests;
 mod upgrade;
 mod written;
 

@@ -7,10 +7,9 @@ ghost use Rattle.paralog_top.specs.Refusals.{IsRefusal, Reads};
 
 use crate::answer::{Answer, Verdict};
 use crate::refusal::Refusal;
-use log_text::{log_laws, read_source};
+use pl_base::Source;
 use pl_base::layout::MAX_LOG_BYTES;
-use pl_base::{NoMemory, Source};
-use run_record::upgrade_log;
+use run_record::upgrade_source;
 use std::alloc::Global;
 
 /// The log that the source has, recorded anew in blocks of 4 bytes.
@@ -21,17 +20,11 @@ pub fn upgrade<S: Source>(alloc: Global, source: &mut S) -> Result<Answer, Refus
     ensures err { let input = tells S.left S.faults source.old source.new in
         IfErr result (IsRefusal kinds.Log input) }
 {
-    match read_source(alloc, source, MAX_LOG_BYTES) {
-        Ok(log) => {
-            log_laws();
-            match upgrade_log(alloc, &log) {
-                Ok(text) => Ok(Answer {
-                    text,
-                    verdict: Verdict::Clean,
-                }),
-                Err(NoMemory) => Err(Refusal::NoMemory),
-            }
-        }
+    match upgrade_source(alloc, source, MAX_LOG_BYTES) {
+        Ok(text) => Ok(Answer {
+            text,
+            verdict: Verdict::Clean,
+        }),
         Err(end) => Err(Refusal::of_log(end)),
     }
 }

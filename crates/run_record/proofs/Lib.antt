@@ -5,3 +5,4 @@ pub mod Logs
 pub mod Feeding
 pub mod Stepping
 pub mod Writing
+pub mod Upgrading

@@ -11,6 +11,7 @@ use Rattle.log_text.specs.Reading.{with_line}
 use Rattle.log_text.specs.Writing.{log_of}
 use Rattle.core_sim.specs.declared.job.Job.{Job}
 use Rattle.core_sim.specs.Start.{start_runs}
+use Rattle.arc_reduce.specs.Drawn.{HaveEight}
 use Rattle.run_record.specs.declared.recording.Recording.{Recording}
 use Rattle.run_record.specs.Recording.{IsRecordedWhole, IsRecording}
 use Rattle.run_record.specs.Texts.{IsRecordText}
@@ -20,10 +21,14 @@ behind : (P : Line → Type 0) (front lines : List Line) → AllByRecursion P (f
 behind P [] lines all = all
 behind P (x ∷ front) lines all = behind P front lines all.1
 
+-- the last lines have arcs of eight harts
+pub eight_behind : (front lines : List Line) → HaveEight (front ++ lines) → All (λ line. length line.arcs ≡ 8) lines
+eight_behind front lines eight =
+    All-from_recursion (λ line. length line.arcs ≡ 8) lines (behind (λ line. length line.arcs ≡ 8) front lines (recursion_from_All (λ line. length line.arcs ≡ 8) (front ++ lines) eight))
+
 -- the lines of a step have arcs of eight harts
 pub all_eight : (job : Job) (front lines : List Line) (recording : Recording) → IsRecording job (front ++ lines) recording → All (λ line. length line.arcs ≡ 8) lines
-all_eight job front lines recording r =
-    All-from_recursion (λ line. length line.arcs ≡ 8) lines (behind (λ line. length line.arcs ≡ 8) front lines (recursion_from_All (λ line. length line.arcs ≡ 8) (front ++ lines) r.has.marked.eight))
+all_eight job front lines recording r = eight_behind front lines r.has.marked.eight
 
 -- no line is added
 pub none_added : (log : Log) → log_spelling log ≡ log_spelling (with_lines log [])

@@ -2,3 +2,4 @@ pub mod Recorded
 pub mod Texts
 pub mod Recording
 pub mod Writing
+pub mod Upgrading

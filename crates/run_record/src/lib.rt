@@ -6,10 +6,12 @@
 
 mod laws;
 mod recording;
+#[cfg(test)]
+mod tests;
 mod upgrade;
 mod written;
 
 pub use laws::{recorded_runs, recording_lines};
 pub use recording::Recording;
-pub use upgrade::upgrade_log;
+pub use upgrade::upgrade_source;
 pub use written::record_job;

@@ -76,7 +76,7 @@ fn write_step(
 }
 
 /// Adds these lines to the text of a log.
-fn add_lines(text: &mut String, lines: &[Line]) -> Result<(), NoMemory>
+pub(crate) fn add_lines(text: &mut String, lines: &[Line]) -> Result<(), NoMemory>
     requires { All (λ line. length line.arcs ≡ 8) lines.now }
     ensures { OnOk result ((log : Log) → string_bytes text.old ≡ log_spelling log →
         string_bytes text.new ≡ log_spelling (with_lines log lines.now)) }

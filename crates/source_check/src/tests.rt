@@ -1,4 +1,6 @@
 //! Logs read from a source in pieces, and their order.
+ghost use Rattle.std.specs.Prelude.{◌<◌, ◌^◌};
+
 use crate::check_source;
 use log_check::UnorderedPair;
 use log_text::{LogCause, LogEnd, LogFault};

@@ -82,8 +82,8 @@ impl OrderCheck {
         ensures { (log : Log) (at : ℕ) → MaySettle self.now log at line.now clock.now →
             FindsPartner log.block log.lines at result }
     {
-        match line.what {
-            Record::Event(event) => self.partner(&event, clock),
+        match &line.what {
+            Record::Event(event) => self.partner(event, clock),
             Record::Notice { hart: _, of: _ } => None,
         }
     }
@@ -125,6 +125,17 @@ impl OrderCheck {
         self.settle(line, &clock)
     }
 
+    // The same, of a line without arcs on which a notice may bear.
+    fn pass_told(&mut self, what: Record) -> Result<Option<UnorderedPair>, NoMemory>
+        requires { (log : Log) × (at : ℕ) × MayPass self.old log at (record { what = what; arcs = no_arcs }) }
+        ensures { (log : Log) (at : ℕ) → MayPass self.old log at (record { what = what; arcs = no_arcs }) →
+            IfOk result (λ found. MatchOption found (IsChecked self.new log (at + 1))
+            (λ pair. NamesFirst log pair.earlier pair.later)) }
+    {
+        let arcs = Arcs::none();
+        self.pass(&Line { what, arcs })
+    }
+
     /// The same, of a line without arcs, which is mostly taken without a look at the other harts.
     #[inline(always)]
     pub fn pass_bare(&mut self, what: Record) -> Result<Option<UnorderedPair>, NoMemory>
@@ -133,13 +144,13 @@ impl OrderCheck {
             IfOk result (λ found. MatchOption found (IsChecked self.new log (at + 1))
             (λ pair. NamesFirst log pair.earlier pair.later)) }
     {
-        let arcs = Arcs::none();
-        let line = Line { what, arcs };
-        let hart = record_hart(&line.what);
+        let hart = record_hart(&what);
         if !self.heads.is_unnoticed(hart) {
-            return self.pass(&line);
+            return self.pass_told(what);
         }
         let clock = self.clocks.next_alone(hart)?;
+        let arcs = Arcs::none();
+        let line = Line { what, arcs };
         self.settle(&line, &clock)
     }
 }

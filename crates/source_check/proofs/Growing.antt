@@ -1,5 +1,5 @@
 -- A log that grows by the lines that are read of it.
-use Rattle.std.proofs.Common.{◌≡◌, ℕ, ◌+◌, ◌<◌, List, [], ◌∷◌, ◌++◌, length, Option, Some, refl, sym, ap, subst, ◌∙◌, append_assoc, append-nil, arith}
+use Rattle.std.proofs.Common.{◌≡◌, ℕ, ◌+◌, ◌<◌, List, [], ◌∷◌, ◌++◌, length, Option, Some, None, Result, Ok, refl, sym, ap, subst, ◌∙◌, append_assoc, append-nil, arith}
 use Rattle.std.specs.List.{slice_get}
 use Rattle.std.proofs.lemmas.List.{length-append}
 use Rattle.std.proofs.lemmas.Option.{slice_get-get_or}
@@ -10,7 +10,8 @@ use Rattle.log_check.specs.Checked.{GrowsTo, IsCheckable, IsChecked, MayPass}
 use Rattle.log_check.specs.declared.order_check.OrderCheck.{OrderCheck}
 use Rattle.log_text.specs.Parts.{HasSoundLines}
 use Rattle.log_text.specs.Reading.{line_of, with_line}
-use Rattle.log_text.specs.Streaming.{IsStreamed, StreamsRow, WasRead, begun_log}
+use Rattle.log_text.specs.Streaming.{IfNext, IfOver, IsStreamed, StreamsRow, WasRead, begun_log}
+use Rattle.log_text.specs.declared.stream.LogEnd.{LogEnd}
 use Rattle.log_text.specs.declared.reader.Row.{Row}
 use Rattle.log_text.specs.declared.stream.LogStream.{LogStream}
 use Rattle.log_text.specs.declared.stream.Opening.{Opening}
@@ -82,3 +83,14 @@ begins lines limit began now opening check new streamed = record {
   streamed = streamed;
   checked = new (begun_log opening) (checkable (begun_log opening) (lines limit began now opening.stream (begun_log opening) streamed)) refl;
 }
+
+abbrev found_row : Option Row → Result (Option Row) LogEnd
+found_row row = Ok row
+
+-- what holds of the line that was found
+pub row_of : (R : Row → Type 0) (result : Result (Option Row) LogEnd) (found : Option Row) (row : Row) → result ≡ Ok found → found ≡ Some row → IfNext result R → R row
+row_of R result found row is some next = subst (λ (o : Option Row). IfNext (found_row o) R) some (subst (λ (r : Result (Option Row) LogEnd). IfNext r R) is next)
+
+-- what holds at the end
+pub over_of : (P : Type 0) (result : Result (Option Row) LogEnd) (found : Option Row) → result ≡ Ok found → found ≡ None → IfOver result P → P
+over_of P result found is none over = subst (λ (o : Option Row). IfOver (found_row o) P) none (subst (λ (r : Result (Option Row) LogEnd). IfOver r P) is over)

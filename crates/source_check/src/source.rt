@@ -117,13 +117,14 @@ fn check_line<S: Source>(
 {
     streamed_lines();
     grown_checks();
-    match stream.next(source) {
-        Ok(Some(row)) => match pass_row(check, stream, &row)? {
+    let next = stream.next(source);
+    match &next {
+        Ok(Some(row)) => match pass_row(check, stream, row)? {
             None => Ok(Step::More),
             Some(pair) => Ok(Step::Found(pair)),
         },
         Ok(None) => Ok(Step::Over),
-        Err(end) => Err(end),
+        Err(end) => Err(*end),
     }
 }
 
